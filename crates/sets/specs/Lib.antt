@@ -1,0 +1,6 @@
+-- The definitions over sets of settings: sets, lists of sets, turning, marks, and the tests that compute.
+pub mod Sets
+pub mod Lists
+pub mod Turns
+pub mod Tests
+pub mod Marks

@@ -1,0 +1,17 @@
+-- The definitions that every contract cites: clauses and truth, setups with their ways out and clashes, the search of an ask,
+-- the refusals, and what each job gives back.
+pub mod Limits
+pub mod Clauses
+pub mod Setups
+pub mod Tests
+pub mod Settling
+pub mod Search
+pub mod Searching
+pub mod Meaning
+pub mod Refusals
+pub mod Checks
+pub mod Taken
+pub mod Ask
+pub mod List
+pub mod Turn
+pub mod Mark

@@ -1,0 +1,57 @@
+-- What List gives back, for all arguments (document 01, "Ways out and clashes" and "What comes back when it can't").
+use mathlib.Core.Path.{_≡_}
+use mathlib.Core.Logic.{_↔_}
+use mathlib.Core.Bool.{Bool, cond, _||_, not}
+use mathlib.Core.List.{List, _++_}
+use Prim.Native.Nat.{ℕ}
+use lib.Dec.{T, ltb, leb, eqb}
+use lib.ListN.{length, drop, replicate}
+use Rattle.sets.specs.Lists.{Exactly}
+use Rattle.setups.specs.declared.Refusal.the-variants.{Vars, Size, Work, Literal, Tail, Long, Softs, TooMany}
+use Rattle.setups.specs.Limits.{variablesMost, hardBytesMost, softBytesMost, setsMost, settingsMost}
+use Rattle.setups.specs.Setups.{setup, settings, Together, WayOut}
+use Rattle.setups.specs.Refusals.{numberOf, finished, unmet, check, noClauseByte, offends, ended, long}
+
+-- of List and of Turn: the answer's number, how many places Listed has filled (else 0), the list buffer and the scratch afterwards
+pub record ListResult : Type 0 where
+  pub number : ℕ
+  pub filled : ℕ
+  pub list : List ℕ
+  pub scratch : List ℕ
+
+-- an answer without a list leaves the list buffer; Unmet and TooMany have set the scratch to zero, all other refusals write nothing
+abbrev pub without-list : ℕ → List ℕ → List ℕ → ListResult
+without-list number list scratch = record { number = number; filled = 0; list = list; scratch = scratch }
+
+abbrev pub zeroed : List ℕ → List ℕ
+zeroed scratch = replicate (length scratch) 0
+
+-- the sets are given out: TooMany exactly when there are more than the room, which is the list buffer's length
+abbrev pub givenOut : List ℕ → List ℕ → List ℕ → ListResult
+givenOut sets list scratch =
+    cond (ltb (length list) (length sets)) (without-list (numberOf TooMany) list (zeroed scratch))
+    (record { number = finished; filled = length sets; list = sets ++ drop (length sets) list; scratch = zeroed scratch })
+
+-- 1, 2, 3, 4, 5, 6, 7; 0 where none is given. Work: "scratch shorter than room + 1"
+abbrev pub listRefusal : ℕ → List ℕ → List ℕ → ℕ → ℕ → ℕ
+listRefusal n hard soft room scratchRoom =
+    check (ltb variablesMost n) Vars
+    (check (ltb hardBytesMost (length hard) || (ltb softBytesMost (length soft) || ltb setsMost room)) Size
+    (check (leb scratchRoom room) Work
+    (check (offends (noClauseByte n) hard || offends (noClauseByte n) soft) Literal
+    (check (not (ended hard) || not (ended soft)) Tail
+    (check (long hard || long soft) Long
+    (check (ltb settingsMost (length (settings soft))) Softs 0))))))
+
+abbrev pub listed : ℕ → Bool → List ℕ → List ℕ → List ℕ → ListResult
+listed refusal met ways list scratch =
+    cond (eqb refusal 0) (cond met (givenOut ways list scratch) (without-list unmet list (zeroed scratch)))
+    (without-list refusal list scratch)
+
+-- The result r of List: `ways` are exactly the ways out, rising, and `met` tells whether the hard clauses have a model.
+pub record Lists (n : ℕ) (hard soft list scratch : List ℕ) (r : ListResult) : Type 0 where
+  pub ways : List ℕ
+  pub exact : Exactly (WayOut (setup n hard soft)) ways
+  pub met : Bool
+  pub meets : T met ↔ Together (setup n hard soft) 0
+  pub says : r ≡ listed (listRefusal n hard soft (length list) (length scratch)) met ways list scratch

@@ -1,0 +1,3 @@
+-- The table of document 01, "The table to prove".
+pub mod Rows
+pub mod Table
