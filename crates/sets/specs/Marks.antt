@@ -1,7 +1,7 @@
 -- How each setting fares over a list (document 01: "tested in this order: K (kept) if no set has it, L (lost) if every set has it,
 -- O (open) otherwise").
 use mathlib.Core.Path.{_≡_, refl}
-use mathlib.Core.Bool.{Bool, not, cond}
+use mathlib.Core.Bool.{not, cond}
 use mathlib.Core.List.{List, [], _∷_}
 use Prim.Native.Nat.{ℕ, zero, suc}
 use Rattle.sets.specs.Tests.{has, all}

@@ -1,7 +1,7 @@
 -- The tests of specs/Tests.antt mean their propositions, so that Meetable, WayOut and Clash are decided.
-use mathlib.Core.Path.{_≡_, refl, sym, ap}
+use mathlib.Core.Path.{refl, sym, ap}
 use mathlib.Core.Logic.{_⊎_, inl, inr, _↔_}
-use mathlib.Core.Bool.{Bool, true, false, not, _&&_, _||_}
+use mathlib.Core.Bool.{Bool, not, _&&_, _||_}
 use mathlib.Core.List.{List, [], _∷_}
 use Prim.Native.Nat.{ℕ, zero, suc, _-_, _^_, _≤_, _<_, zero-le, suc-le-suc}
 use native.Mathlib.Nat.{not-suc-le-zero, le-of-suc-le-suc, le-refl, zero-lt-suc, suc-inj, suc-ne-zero}

@@ -1,22 +1,22 @@
 -- Truth of clauses: of two buffers joined, of lists joined, and that it depends only on the variables that occur.
 use mathlib.Core.Path.{_≡_, refl, sym, ap, ap₂, _∙_}
 use mathlib.Core.Logic.{inl, inr}
-use mathlib.Core.Bool.{Bool, true, false, _&&_, _||_, and-assoc}
+use mathlib.Core.Bool.{Bool, _&&_, _||_, and-assoc}
 use mathlib.Core.List.{List, [], _∷_, _++_}
 use Prim.Native.Nat.{ℕ, zero, suc}
 use lib.Dec.{T, eqb, eqb·suc-zero}
 use lib.ListN.{getD}
 use Rattle.sets.specs.Lists.{Listed}
-use Rattle.setups.specs.Clauses.{push, clauses, Among, place, wish, literalTrue, clauseTrue, allTrue}
+use Rattle.setups.specs.Clauses.{push, clauses, Among, place, wish, clauseTrue, allTrue}
 use Rattle.setups.specs.Refusals.{ended}
 use Rattle.setups.specs.Setups.{apiece, settings}
 
 -- a literal ends no clause
-literal-goes-on : (b : ℕ) → ¬ T (ended (suc b ∷ []))
+pub literal-goes-on : (b : ℕ) → ¬ T (ended (suc b ∷ []))
 literal-goes-on b t = rw (eqb·suc-zero b) at t
 
 -- bytes that end in 0 after at least one byte have a first clause
-first-clause : (bytes : List ℕ) (b : ℕ) → T (ended (b ∷ bytes)) → (c : List ℕ) × (cs : List (List ℕ)) × (clauses (b ∷ bytes) ≡ c ∷ cs)
+pub first-clause : (bytes : List ℕ) (b : ℕ) → T (ended (b ∷ bytes)) → (c : List ℕ) × (cs : List (List ℕ)) × (clauses (b ∷ bytes) ≡ c ∷ cs)
 first-clause [] zero t = ([], [], refl)
 first-clause [] (suc b) t = absurd (literal-goes-on b t)
 first-clause (d ∷ bytes) zero t = ([], clauses (d ∷ bytes), refl)

@@ -1,5 +1,5 @@
 -- What an ask gives back, for all arguments (document 01, "One ask" and "What comes back when it can't").
-use mathlib.Core.Bool.{Bool, cond, _||_, not}
+use mathlib.Core.Bool.{cond, _||_, not}
 use mathlib.Core.List.{List, [], _∷_, _++_}
 use Prim.Native.Nat.{ℕ}
 use lib.Dec.{ltb, eqb}

@@ -1,6 +1,6 @@
 -- The tests that compute, for what Setups says: each is proved to mean its proposition (proofs/Tests.antt).
 use mathlib.Core.Path.{_≡_, refl}
-use mathlib.Core.Bool.{Bool, true, false, not, _&&_, _||_}
+use mathlib.Core.Bool.{Bool, true, not, _&&_, _||_}
 use mathlib.Core.List.{List, [], _∷_}
 use Prim.Native.Nat.{ℕ, zero, suc, _-_, _^_}
 use lib.Dec.{ltb}

@@ -4,7 +4,7 @@ use mathlib.Core.List.{List, [], _∷_}
 use Prim.Native.Nat.{ℕ, _+_}
 use Rattle.sets.specs.Lists.{Exactly}
 use Rattle.setups.specs.Clauses.{clauses}
-use Rattle.setups.specs.Setups.{Setup, setup, Together, WayOut, Clash}
+use Rattle.setups.specs.Setups.{Setup, Together, WayOut, Clash}
 
 -- the negation of variable v, as a literal byte
 abbrev pub neg : ℕ → ℕ

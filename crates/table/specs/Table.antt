@@ -1,6 +1,6 @@
 -- P1 to P14 of document 01 as one statement over the definitions. The lent places hold any numbers before; what is not written stays.
 use mathlib.Core.Path.{_≡_}
-use mathlib.Core.List.{List, [], _∷_}
+use mathlib.Core.List.{[], _∷_}
 use Prim.Native.Nat.{ℕ}
 use Rattle.setups.specs.Setups.{setup}
 use Rattle.setups.specs.Ask.{askResult}
