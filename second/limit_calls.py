@@ -23,7 +23,7 @@ def units(first: int, last: int, sign: int = 1) -> bytes:
 
 
 FULL = clause(*[1] * 127)
-ONE_OF_THREE = clause(1, 2) + clause(1, -2) + clause(-1, 2)
+P10_CLAUSES = clause(1, 2) + clause(1, -2) + clause(-1, 2)
 IMPLIED = clause(1) + b"".join(clause(-each, each + 1) for each in range(1, 64))
 
 
@@ -48,8 +48,8 @@ def with_budgets(count: int, clauses: bytes, assumed: bytes = b"") -> list[Call]
 
 def searched_asks() -> list[Call]:
     every_literal_but_one = clause(*range(1, 65), *range(-63, 0))
-    given = [(0, b""), (0, b"\0"), (2, b""), (64, b""), (2, ONE_OF_THREE),
-             (2, ONE_OF_THREE + clause(-1, -2)), (64, IMPLIED), (64, IMPLIED, b"\xC0"),
+    given = [(0, b""), (0, b"\0"), (2, b""), (64, b""), (2, P10_CLAUSES),
+             (2, P10_CLAUSES + clause(-1, -2)), (64, IMPLIED), (64, IMPLIED, b"\xC0"),
              pigeons(2), pigeons(3), (64, every_literal_but_one), (3, clause(1, 1)),
              (2, clause(1, -1)), (64, units(1, 64, -1)), (64, b"", bytes(range(1, 65)))]
     return [call for arguments in given for call in with_budgets(*arguments)]
@@ -75,9 +75,9 @@ def judged_asks() -> list[Call]:
 def rooms_of_asks() -> list[Call]:
     """Model buffers one short, empty and longer than needed, also under None and Spent."""
     return [(1, b"", b"", 9, 0), (64, b"", b"", 99, 63), (64, b"", b"", 99, 0),
-            (2, b"\0", b"", 9, 1), (2, ONE_OF_THREE, b"", 2, 1), (2, ONE_OF_THREE, b"", 3, 5),
-            (2, ONE_OF_THREE, b"", 2, 5), (2, b"\0", b"", 9, 5), (0, b"", b"", 1, 4),
-            (64, IMPLIED, b"", 1, 66), (2, ONE_OF_THREE, b"", 0x80000000, 2),
+            (2, b"\0", b"", 9, 1), (2, P10_CLAUSES, b"", 2, 1), (2, P10_CLAUSES, b"", 3, 5),
+            (2, P10_CLAUSES, b"", 2, 5), (2, b"\0", b"", 9, 5), (0, b"", b"", 1, 4),
+            (64, IMPLIED, b"", 1, 66), (2, P10_CLAUSES, b"", 0x80000000, 2),
             (1, clause(-1), b"", 1, MOST_BYTES)]
 
 
@@ -210,7 +210,7 @@ def limit_turns() -> list[Call]:
     return calls + [(20, FULL_LIST, 10, 11), (20, FULL_LIST, 9, 10), (20, FULL_WRONG_LIST, 10, 11),
                     (20, LONG_LIST, 10, 11), (32, [EVERY_BIT], 31, 32),
                     (32, disjoint_pairs(16), 1024, 1025), (4, [3, 5], MOST_SETS, MOST_SETS),
-                    (4, [3, 5], 4, MOST_SETS)]
+                    (4, [3, 5], 4, MOST_SETS), (4, [0] * MOST_SETS, 4, 5)]
 
 
 def limit_marks() -> list[Call]:
@@ -233,7 +233,8 @@ def wrong_texts() -> list[bytes]:
     """Each class of Frame, at the first, a middle and the last line."""
     texts = [b"", b"\n", b"FF\n", b"1003\n", b"1003", b"1003\nFF", b"1003\r\nFF\r\n", b"FF\n1003\n",
              b"10\nFF\n", b"1003FF\n", b"1003\n1003\nFF\n", b"1003\n00\nFF\n", b"2001\n1003\nFF\n",
-             b"1003\n20\n", b"20\nFF\n", b"1003\nFF\n20\nFF\n", b"1003\n2001003\nFF\n"]
+             b"1003\n20\n", b"20\nFF\n", b"1003\nFF\n20\nFF\n", b"1003\n2001003\nFF\n",
+             b"1003\n2000\nFF\n", b"1003\n300001\nFF\n", b"1003\n30010003\nFF\n"]
     for place in (0, 3, 6):
         before, after = b"".join(GOOD_LINES[:place]), b"".join(GOOD_LINES[place + 1:])
         texts += [before + other + after for other in wrong_instead_of(GOOD_LINES[place][:-1])]
@@ -276,7 +277,7 @@ MORE_TEXT = text_of(10918, b"300102")
 def limit_reads() -> list[Call]:
     good, longest = b"".join(GOOD_LINES), b"01" * 127
     calls = [(text, 9, 9) for text in wrong_texts() + near_texts()]
-    calls += [(good, hard, soft) for hard in (0, 2, 3, 4) for soft in (0, 8, 9, 10)]
+    calls += [(good, hard, soft) for hard in (0, 2, 3, 4) for soft in (0, 7, 8, 9)]
     calls += [(b"1003\nFF\n", 0, 0), (b"10FF\nFF\n", 2, 0), (b"1000\n20\nFF\n", 1, 0),
               (b"1000\n20\nFF\n", 0, 1), (b"1000\n30\nFF\n", 0, 1), (b"1000\n30\nFF\n", 1, 0),
               (good[:-1], 0, 0), (b"", 0, 0), (b"1001\n20" + longest + b"\nFF\n", 128, 0),

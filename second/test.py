@@ -8,7 +8,7 @@ from calls import ALL_JOBS, answer, answers, line_of_call
 from definitions import (clashes_by_definition, models, turned_by_definition,
                          ways_out_by_definition)
 from frames import read, write
-from limit_calls import (FULL, MORE_TEXT, MOST_TEXT, ONE_OF_THREE, TABLE, both_sides, clause,
+from limit_calls import (FULL, MORE_TEXT, MOST_TEXT, P10_CLAUSES, TABLE, both_sides, clause,
                          disjoint_pairs, limit_lines, one_of_each_pair, right_lists, units,
                          wrong_lists, wrong_texts)
 from no_calls import good_line, no_calls
@@ -66,9 +66,9 @@ def test_rest_of_table() -> None:
          (TOO_MANY, 0, [7] * 2, [0] * 3))
     same("P9, room 3", list_ways_out(*TABLE["P4"], [7] * 3, [7] * 4),
          (DONE, 3, [5, 6, 10], [0] * 4))
-    same("P10, budget 2", ask(2, ONE_OF_THREE, b"", 2, b"??"), (SPENT, 0, b"??"))
-    same("P10, budget 3", ask(2, ONE_OF_THREE, b"", 3, b"???"), (DONE, 3, b"\1\1?"))
-    same("P11", ask(2, ONE_OF_THREE + clause(-1, -2), b"", 3, b"??"), (NONE, 3, b"??"))
+    same("P10, budget 2", ask(2, P10_CLAUSES, b"", 2, b"??"), (SPENT, 0, b"??"))
+    same("P10, budget 3", ask(2, P10_CLAUSES, b"", 3, b"???"), (DONE, 3, b"\1\1?"))
+    same("P11", ask(2, P10_CLAUSES + clause(-1, -2), b"", 3, b"??"), (NONE, 3, b"??"))
     same("P12", ask(2, b"", b"", 3, b"??"), (DONE, 3, b"\0\0"))
     same("P13", turn(1, [0, 1], [7] * 2, [7] * 3), (LIST, 0, [7] * 2, [7] * 3))
 
@@ -213,12 +213,13 @@ def test_frames(random: Random) -> None:
     mixed = lines("10FF 3001 20 30 2080FF FF")
     same("a mixture", read(mixed, b"?" * 5, b"?" * 3),
          (DONE, 255, 4, 3, b"\0\x80\xFF\0?", b"\x01\0\0"))
-    same("a mixture, hard short", read(mixed, b"?" * 3, b"?" * 3)[0], ROOM)
-    same("a mixture, soft short", read(mixed, b"?" * 4, b"?" * 2)[0], ROOM)
+    same("a mixture, hard short", read(mixed, b"???", b"???"), (ROOM, 0, 0, 0, b"???", b"???"))
+    same("a mixture, soft short", read(mixed, b"????", b"??"), (ROOM, 0, 0, 0, b"????", b"??"))
     same("the longest line", read(lines("1001 20" + "01" * 127 + " FF"), bytes(128), b"")[0], DONE)
     same("lengths", (len(MOST_TEXT), len(MORE_TEXT)), (32768, 32769))
     same("the longest text", read(MOST_TEXT, bytes(10919), bytes(1))[0], DONE)
-    same("a longer text", read(MORE_TEXT, bytes(10918), bytes(3))[0], SIZE)
+    same("a longer text", read(MORE_TEXT, bytes(10918), bytes(3)),
+         (SIZE, 0, 0, 0, bytes(10918), bytes(3)))
     same("the longest written", write(1, bytes(8192), clause(*[1] * 63) * 32, bytes(28712))[:2],
          (DONE, 28712))
 
@@ -285,7 +286,8 @@ def test_limits() -> None:
 def test_refusals() -> None:
     for letter in ALL_JOBS:
         for number, line in chains(letter) + pairs(letter):
-            same(f"{line}", int(answer(line).split(b" ")[1], 16), number)
+            # Beside a refusal stand no visits and nothing filled.
+            same(f"{line}", answer(line).split(b" ")[1:3], [b"%08X" % number, b"00000000"])
     for settings, sets in right_lists():
         same(f"{settings} {sets} is a list", mark(settings, sets, bytes(32))[0], DONE)
     for settings, sets in wrong_lists():
@@ -350,6 +352,12 @@ def test_lines() -> None:
         same(f"{letter} without LF", answers(line), b"?\n")
         for wrong in no_calls(letter):
             same(f"{wrong[:300]} is no call", answer(wrong), b"?")
+    for most, more in [(("A", 0, b"", b"", 1, 40_000), ("A", 0, b"", b"", 1, 40_001)),
+                       (("W", 0, bytes(40_000), b"", 8), ("W", 0, bytes(40_001), b"", 8)),
+                       (("T", 0, [], 2_048, 0), ("T", 0, [], 2_049, 0)),
+                       (("M", 0, [0] * 2_048, 0), ("M", 0, [0] * 2_049, 0))]:
+        same(f"{most[0]} at its most", answer(line_of_call(*most))[:2], most[0].encode() + b" ")
+        same(f"{more[0]} beyond its most", answer(line_of_call(*more)), b"?")
     same("lines", answers(b"\nX\n" + good_line("M") + b"\n\nM"),
          b"?\n?\n" + answer(good_line("M")) + b"\n?\n?\n")
     same("no line", answers(b""), b"")

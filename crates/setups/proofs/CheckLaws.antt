@@ -264,7 +264,7 @@ apiece-length : (cs : List (List ℕ)) → length (apiece cs) ≡ length cs
 apiece-length [] = refl
 apiece-length (clause ∷ rest) = ap suc (apiece-length rest)
 
-push-length : (b : ℕ) (cs : List (List ℕ)) → length (push b cs) ≡ length cs
+pub push-length : (b : ℕ) (cs : List (List ℕ)) → length (push b cs) ≡ length cs
 push-length b [] = refl
 push-length b (clause ∷ rest) = refl
 

@@ -18,3 +18,5 @@ pub mod Models
 pub mod LiteralLaws
 -- the byte checks: the first place that offends, and what the refusals say of it
 pub mod CheckLaws
+-- a refusal is known by its number
+pub mod Refusals

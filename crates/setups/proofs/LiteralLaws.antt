@@ -9,18 +9,14 @@ use borrow.Author.Tests.{eqb-false, ltb-false, eq-eqb, ne-eqb}
 use lib.Dec.{eqb, ltb}
 use lib.ListN.{length, getD}
 use Rattle.setups.specs.Limits.{variablesMost}
-use Rattle.setups.specs.Clauses.{place}
+use Rattle.setups.specs.Clauses.{LiteralOf, place}
 use Rattle.setups.specs.Refusals.{noLiteral, noClauseByte, offends}
 use Rattle.setups.proofs.CheckLaws.{offends-at}
 
 -- ---- what the tests of a byte say
 
--- the byte is v or 128 + v, with v from 1 up to n
-pub record LiteralOf (n b : ℕ) : Type 0 where
-  pub some : 0 < b % 128
-  pub most : b % 128 ≤ n
-
-neither : (a b : Bool) → (a || b) ≡ false → (a ≡ false) × (b ≡ false)
+-- where one of two tests would pass, neither does
+pub neither : (a b : Bool) → (a || b) ≡ false → (a ≡ false) × (b ≡ false)
 neither true b e = absurd (true≢false e)
 neither false b e = (refl, e)
 

@@ -32,6 +32,11 @@ pub record Assigns (n : ℕ) (m : List ℕ) : Type 0 where
   pub size : length m ≡ n
   pub bits : (i : ℕ) → i < n → getD m i 0 ≤ 1
 
+-- the byte is v or 128 + v, with v from 1 up to n: a literal of n variables
+pub record LiteralOf (n b : ℕ) : Type 0 where
+  pub some : 0 < b % 128
+  pub most : b % 128 ≤ n
+
 -- where the value of a literal's variable stands: for v, and for 128 + v, at v − 1
 abbrev pub place : ℕ → ℕ
 place b = b % 128 - 1

@@ -1,0 +1,54 @@
+// The refusals of an ask that need no search. Each number is tested over all arguments before the next.
+use numbers::VARIABLES_MOST;
+use setups::Refusal;
+use setups::first_bad_assumed;
+use setups::first_bad_literal;
+use setups::long_place;
+use setups::tail_place;
+ghost use mathlib.Core.Path.{_≡_};
+ghost use Rattle.setups.specs.Ask.{askRefusal};
+ghost use Rattle.ask.specs.Starting.{refusalOf};
+
+// How many clause bytes an ask takes.
+const CLAUSE_BYTES_MOST: usize = 8192;
+
+// How many assumed literals it takes.
+const ASSUMED_MOST: usize = 64;
+
+// Passed, or refused.
+pub enum Checked {
+    Passed,
+    Refused(Refusal),
+}
+
+// The first refusal of 1, 2, 12, 4, 5, 6, with `room` places lent for a model.
+pub fn first_refusal(count: u32, clauses: &[u8], assumed: &[u8], room: usize) -> Checked
+    ensures { λ r. ⌜ refusalOf r ≡ askRefusal count (now (clauses .entry)) (now (assumed .entry)) room ⌝ }
+{
+    let variables = count as usize;
+    if VARIABLES_MOST < variables {
+        return Checked::Refused(Refusal::Vars);
+    }
+    if CLAUSE_BYTES_MOST < clauses.len() {
+        return Checked::Refused(Refusal::Size);
+    }
+    if ASSUMED_MOST < assumed.len() {
+        return Checked::Refused(Refusal::Size);
+    }
+    if room < variables {
+        return Checked::Refused(Refusal::Room);
+    }
+    if first_bad_literal(count, clauses) < clauses.len() {
+        return Checked::Refused(Refusal::Literal);
+    }
+    if first_bad_assumed(count, assumed) < assumed.len() {
+        return Checked::Refused(Refusal::Literal);
+    }
+    if tail_place(clauses) < clauses.len() {
+        return Checked::Refused(Refusal::Tail);
+    }
+    if long_place(clauses) < clauses.len() {
+        return Checked::Refused(Refusal::Long);
+    }
+    Checked::Passed
+}

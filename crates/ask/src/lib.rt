@@ -1,0 +1,53 @@
+// Ask: is there a model of some clauses and assumed literals (document 01, "One ask")? The answer is the first model in order, with
+// the visit count of the whole search; or that there is none; or a refusal, which writes nothing.
+mod checks;
+mod values;
+
+use checks::Checked;
+use checks::first_refusal;
+use search::Outcome;
+use search::visit;
+use setups::Refusal;
+use values::start;
+use values::write_model;
+ghost use mathlib.Core.Path.{_≡_};
+ghost use lib.ListN.{length};
+ghost use Rattle.setups.specs.Searching;
+ghost use Rattle.setups.specs.Ask.{askClauses, askRefusal, found};
+ghost use Rattle.ask.specs.Asking.{answered, Asks};
+
+// Model and None carry the visits of the whole search.
+pub enum Asked {
+    Model(u32),
+    None(u32),
+    Refused(Refusal),
+}
+
+// The ask that no check refuses: the search from the first visit on.
+fn answer(count: u32, clauses: &[u8], assumed: &[u8], budget: u32, model: &mut [u8]) -> Asked
+    requires { ⌜ askRefusal count (now clauses) (now assumed) (length (now model)) ≡ 0 ⌝ }
+    ensures { λ r. ⌜ answered r (now (model .exit)) ≡ found count budget (now (model .entry)) (Searching.search count (askClauses (now (clauses .entry)) (now (assumed .entry)))) ⌝ }
+{
+    let variables = count as usize;
+    let end = visit(start(variables), clauses, b"", assumed, 0, budget);
+    let outcome = end.outcome;
+    match outcome {
+        Outcome::Model => {
+            let values = end.values;
+            write_model(model, values, variables);
+            Asked::Model(end.used)
+        }
+        Outcome::None => Asked::None(end.used),
+        Outcome::Spent => Asked::Refused(Refusal::Spent),
+    }
+}
+
+// Refusals come in document 01's order, and Spent last.
+pub fn ask(count: u32, clauses: &[u8], assumed: &[u8], budget: u32, model: &mut [u8]) -> Asked
+    ensures { λ r. ⌜ Asks count (now (clauses .entry)) (now (assumed .entry)) budget (now (model .entry)) r (now (model .exit)) ⌝ }
+{
+    match first_refusal(count, clauses, assumed, model.len()) {
+        Checked::Refused(refusal) => Asked::Refused(refusal),
+        Checked::Passed => answer(count, clauses, assumed, budget, model),
+    }
+}

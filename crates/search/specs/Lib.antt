@@ -1,0 +1,3 @@
+-- What the functions of the search promise, over the search of setups/specs/Searching.antt.
+pub mod Scans
+pub mod Told

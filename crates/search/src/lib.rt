@@ -1,0 +1,40 @@
+// The search of an ask: visit and split call each other, free variables falling around the cycle (document 01, "One ask").
+// It takes two clause buffers and assumed literals, and knows no limit on their bytes.
+mod scans;
+mod visits;
+
+use numbers::VARIABLES_MOST;
+use setups::Seen;
+pub use visits::visit;
+
+// A place for each variable there can be: its value is 0 or 1, or FREE while the search hasn't set it.
+pub type Values = [u8; VARIABLES_MOST];
+
+// The value of a free variable.
+pub const FREE: u8 = 2;
+
+// What a scan decides, and how many clauses it has passed before the one that decided.
+pub struct Scanned {
+    pub seen: Seen,
+    pub passed: usize,
+}
+
+// Whether settling fails, and the values when it ends.
+pub struct Settled {
+    pub fails: bool,
+    pub values: Values,
+}
+
+// How a visit ends; Spent as soon as the visits pass the budget.
+pub enum Outcome {
+    Model,
+    None,
+    Spent,
+}
+
+// How a visit ended, with how many visits have been used since the search began; the values are the model's, else all 0.
+pub struct Answer {
+    pub outcome: Outcome,
+    pub used: u32,
+    pub values: Values,
+}
