@@ -1,5 +1,7 @@
 // The refusals of an ask that need no search. Each number is tested over all arguments before the next.
 use numbers::VARIABLES_MOST;
+use setups::ASSUMED_MOST;
+use setups::HARD_BYTES_MOST;
 use setups::Refusal;
 use setups::first_bad_assumed;
 use setups::first_bad_literal;
@@ -8,12 +10,6 @@ use setups::tail_place;
 ghost use mathlib.Core.Path.{_≡_};
 ghost use Rattle.setups.specs.Ask.{askRefusal};
 ghost use Rattle.ask.specs.Starting.{refusalOf};
-
-// How many clause bytes an ask takes.
-const CLAUSE_BYTES_MOST: usize = 8192;
-
-// How many assumed literals it takes.
-const ASSUMED_MOST: usize = 64;
 
 // Passed, or refused.
 pub enum Checked {
@@ -29,7 +25,7 @@ pub fn first_refusal(count: u32, clauses: &[u8], assumed: &[u8], room: usize) ->
     if VARIABLES_MOST < variables {
         return Checked::Refused(Refusal::Vars);
     }
-    if CLAUSE_BYTES_MOST < clauses.len() {
+    if HARD_BYTES_MOST < clauses.len() {
         return Checked::Refused(Refusal::Size);
     }
     if ASSUMED_MOST < assumed.len() {

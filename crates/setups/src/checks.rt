@@ -1,4 +1,5 @@
 // The byte checks, each over one buffer: the place of the first offence, or the buffer's length where there is none.
+use crate::LITERALS_MOST;
 use numbers::variable_of;
 ghost use mathlib.Core.Path.{_≡_};
 ghost use lib.ListN.{length};
@@ -7,11 +8,8 @@ ghost use Rattle.setups.specs.Setups.{settings};
 ghost use Rattle.setups.specs.Refusals.{noLiteral, noClauseByte, firstPlace};
 ghost use Rattle.setups.specs.Checks.{tailPlace, longPlace, settingPlace};
 
-// How many literals a clause may have, repeats counted.
-pub const LITERALS_MOST: usize = 127;
-
-// How many settings a setup may have.
-pub const SETTINGS_MOST: usize = 32;
+// The most settings, as a count of places.
+const SETTINGS_MOST: usize = sets::SETTINGS_MOST as usize;
 
 // The byte is no literal of `count` variables.
 fn no_literal(count: u32, byte: u8) -> bool

@@ -1,0 +1,33 @@
+-- `answers::put_sets` is safe and ends. The measure is the sets that are left.
+use Prim.Native.Nat.{_-_}
+use mathlib.Core.Path.{_≡_}
+use native.Mathlib.Omega.{arith}
+use borrow.Author.Needs.{needs}
+use lib.ListN.{length}
+use Rattle.calls.proofs.answers.put_sets.Statement.{statement}
+use Rattle.calls.proofs.answers.put_sets.Tie as tie
+
+abbrev Inv-loop : tie.InvT-loop
+Inv-loop out₀ at sets next₀ i₀ i-end out next i = i-end ≡ length sets
+
+abbrev μ-loop : tie.MeasureT-loop
+μ-loop out₀ at sets next₀ i₀ i-end out next i = i-end - i
+
+pub put-sets-spec : {M : Type 1} → statement M
+put-sets-spec =
+    tie.close
+    (tie.spec
+    Inv-loop
+    μ-loop
+    (λ c κs. tt)
+    (λ c κs. tt)
+    (λ c. tt)
+    (λ c. omega arith)
+    (λ c. omega arith)
+    (λ c. omega arith)
+    (λ c. omega (arith, c .shared-slice-known2 .given (c .before .before .before .loop .i)))
+    (λ c κs. omega arith)
+    (λ c. omega arith)
+    (λ c. omega arith)
+    (λ c. omega arith)
+    (λ c. tt))

@@ -1,0 +1,30 @@
+-- `fields::value` is safe and ends. The measure is what is left of the field.
+use mathlib.Core.Path.{_≡_}
+use Prim.Native.Nat.{_-_}
+use native.Mathlib.Omega.{arith}
+use lib.ListN.{length}
+use Rattle.calls.proofs.fields.value.Statement.{statement}
+use Rattle.calls.proofs.fields.value.Tie as tie
+
+abbrev Inv-loop : tie.InvT-loop
+Inv-loop field value₀ i₀ i-end value i = i-end ≡ length field
+
+abbrev μ-loop : tie.MeasureT-loop
+μ-loop field value₀ i₀ i-end value i = i-end - i
+
+pub value-spec : {M : Type 1} → statement M
+value-spec =
+    tie.close
+    (tie.spec
+    Inv-loop
+    μ-loop
+    (λ c. omega arith)
+    (λ c. omega arith)
+    (λ c. omega arith)
+    (λ c κs. tt)
+    (λ c. omega arith)
+    (λ c. omega arith)
+    (λ c. omega arith)
+    (λ c. omega arith)
+    (λ c. omega arith)
+    (λ c. tt))
