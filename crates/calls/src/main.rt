@@ -3,7 +3,11 @@
 mod answers;
 mod ask_call;
 mod fields;
+mod mark_call;
 mod places;
+mod read_call;
+mod turn_call;
+mod write_call;
 
 use answers::Output;
 use answers::put;
@@ -25,6 +29,10 @@ fn answer(line: &[u8], out: &mut Output, at: usize) -> usize {
     let letter = fields::letter(line);
     let end = match letter {
         b'A' => ask_call::answer(line, out, at),
+        b'T' => turn_call::answer(line, out, at),
+        b'M' => mark_call::answer(line, out, at),
+        b'R' => read_call::answer(line, out, at),
+        b'W' => write_call::answer(line, out, at),
         _ => put_no_call(out, at),
     };
     put(out, end, LINE_FEED)

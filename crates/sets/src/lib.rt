@@ -6,6 +6,7 @@ ghost use mathlib.Core.Path.{_≡_};
 ghost use mathlib.Core.Bool.{true};
 ghost use mathlib.Core.Logic.{_↔_};
 ghost use Prim.Native.Nat.{_-_, _^_, min};
+ghost use lib.Count.{ones};
 ghost use Rattle.sets.specs.Sets.{Share, Within, Joins, Leaves, only};
 
 // A set of settings.
@@ -30,6 +31,13 @@ pub fn only_this(setting: Setting) -> Set
     }
     let selector = selector_of(setting);
     1 << selector.0
+}
+
+// How many settings the set has.
+pub fn size(set: Set) -> u32
+    ensures { λ r. ⌜ r ≡ ones set ⌝ }
+{
+    u32::count_ones(set)
 }
 
 // The two sets share a setting.

@@ -1,0 +1,46 @@
+-- What the reader's steps find in a text: bytes in pairs of digits, and at a place of the text its frame, in numbers.
+use mathlib.Core.Path.{_≡_, refl}
+use mathlib.Core.Bool.{cond, _&&_}
+use mathlib.Core.List.{List, [], _∷_}
+use Prim.Native.Nat.{ℕ, zero, suc, _+_, _*_}
+use lib.ListN.{length, getD, drop}
+use Rattle.frames.specs.declared.frames.Found.{Found}
+use Rattle.frames.specs.declared.frames.Found.the-variants.{Header, Hard, Soft, End, NoFrame}
+use Rattle.frames.specs.declared.reading.Checked.{Checked}
+use Rattle.frames.specs.declared.reading.Checked.the-variants.{Good, Bad}
+use Rattle.frames.specs.Digits.{between, isDigit, byteOf}
+use Rattle.frames.specs.Frames.{lines, Frame, header, hard, soft, end, noFrame, frame}
+use Rattle.frames.specs.Texts.{Text, good, bad}
+
+-- how many pairs of digits the text begins with
+abbrev pub pairs : List ℕ → ℕ
+pairs [] = 0
+pairs (c ∷ []) = 0
+pairs (c ∷ d ∷ text) = cond (isDigit c && isDigit d) (suc (pairs text)) 0
+
+-- the bytes of the first n pairs
+abbrev pub bytesFrom : ℕ → List ℕ → List ℕ
+bytesFrom zero text = []
+bytesFrom (suc n) text = byteOf (getD text 0 0) (getD text 1 0) ∷ bytesFrom n (drop 2 text)
+
+-- 1F2 begins with one pair, the byte 31
+example-pairs : (pairs (49 ∷ 70 ∷ 50 ∷ []) ≡ 1) × (bytesFrom 1 (49 ∷ 70 ∷ 50 ∷ []) ≡ 31 ∷ [])
+unfolding between
+example-pairs = (refl, refl)
+
+-- a frame at a place of the text: the variable count, or how many literals there are, and the place after its line
+abbrev pub found : ℕ → Frame → Found
+found at (header count) = Header count (at + 5)
+found at (hard literals) = Hard (length literals) (at + (2 * length literals + 3))
+found at (soft literals) = Soft (length literals) (at + (2 * length literals + 3))
+found at end = End (at + 3)
+found at noFrame = NoFrame
+
+-- the frame of the line that begins at `at`
+unfoldable pub foundAt : List ℕ → ℕ → Found
+foundAt text at = found at (frame (getD (lines (drop at text)) 0 []))
+
+-- what a text says, in numbers: the variable count and how many bytes each buffer has to hold, or the first bad line
+abbrev pub checked : Text → Checked
+checked (good count h s) = Good count (length h) (length s)
+checked (bad line) = Bad line

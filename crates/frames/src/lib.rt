@@ -1,0 +1,13 @@
+// Read and Write: a setup as lines of hexadecimal.
+mod digits;
+mod frames;
+mod reader;
+mod reading;
+mod writing;
+
+pub use digits::put_byte;
+pub use digits::put_set;
+pub use reading::Reading;
+pub use reading::read;
+pub use writing::Writing;
+pub use writing::write;

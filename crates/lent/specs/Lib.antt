@@ -1,0 +1,2 @@
+-- What the check of a list asks of each of its sets.
+pub mod Leads

@@ -1,0 +1,112 @@
+-- From the whole branch to the turn: where the search begins, and what it gives out at its end.
+use mathlib.Core.Path.{_≡_, refl}
+use mathlib.Core.Logic.{inl, inr, ⊎-elim, _↔_, by-cases}
+use mathlib.Core.List.{List, [], _∷_, _++_}
+use Prim.Native.Nat.{ℕ, _-_, _^_, _≤_, _<_, zero-le, suc-le-suc}
+use native.Mathlib.Nat.{le-trans, le-suc}
+use native.Mathlib.Decide.{ℕ-discrete}
+use native.Mathlib.Omega.{arith}
+use lib.ListN.{length, take, drop, replicate}
+use lib.Seq.{length-take-le}
+use lib.Pow.{pow-pos}
+use borrow.Author.Tests.{lt-ltb, le-ltb, ne-eqb}
+use Rattle.sets.specs.Sets.{Within}
+use Rattle.sets.specs.Lists.{Listed, Rising}
+use Rattle.sets.specs.Turns.{SmallestCross, Turned}
+use Rattle.sets.proofs.Digits.{within-le, none-in, none-within, in-below, full-in}
+use Rattle.sets.proofs.Turning.{turn-exists}
+use Rattle.setups.specs.Refusals.{numberOf}
+use Rattle.setups.specs.List.{ListResult}
+use Rattle.setups.specs.Turn.{turnRefusal, Turns}
+use Rattle.setups.specs.declared.Refusal.{Refusal}
+use Rattle.setups.specs.declared.Refusal.the-variants.{TooMany}
+use Rattle.setups.proofs.Refusals.{refused-number}
+use Rattle.turn.specs.declared.Turning.the-variants.{Listed as GaveList, Refused}
+use Rattle.turn.specs.Branches.{Branch}
+use Rattle.turn.specs.Growing.{Grown}
+use Rattle.turn.specs.Turning.{answered, GivesOut}
+
+-- ---- the beginning
+
+-- with nothing taken and n settings left the branch holds the smallest sets across the members
+whole-branch : (n : ℕ) (members : List ℕ) (S : ℕ) → Branch members 0 (2 ^ n - 1) S ↔ SmallestCross n (λ M. Listed M members) S
+whole-branch n members S = (to, from)
+  where
+    to : Branch members 0 (2 ^ n - 1) S → SmallestCross n (λ M. Listed M members) S
+    to b =
+        let w : Within S (2 ^ n - 1) = λ i h. ⊎-elim (λ z. absurd (none-in i z)) (λ k. k) (b .rest i h) in
+        let below : S < 2 ^ n = omega (arith, within-le S (2 ^ n - 1) w, pow-pos n) in
+        (record { below = below; each = b .smallest .0 }, λ R v ne c. b .smallest .1 R v ne (c .each))
+
+    from : SmallestCross n (λ M. Listed M members) S → Branch members 0 (2 ^ n - 1) S
+    from c = record {
+      smallest = (c .0 .each, λ R v ne h. c .1 R v ne (record { below = let l = c .0 .below in omega (arith, within-le R S v); each = h }));
+      has = none-within S;
+      rest = λ i h. inr (full-in n i .1 (in-below n (c .0 .below) h));
+    }
+
+-- ---- the end
+
+-- a rising list whose sets all stand in another rising list is not longer
+no-longer : (a b : List ℕ) → Rising a → Rising b → ((S : ℕ) → Listed S a → Listed S b) → length a ≤ length b
+no-longer [] b r s h = zero-le
+no-longer (x ∷ a) [] r s h = absurd (h x (inl refl))
+no-longer (x ∷ a) (y ∷ b) r s h =
+    by-cases (ℕ-discrete x y) (λ e. suc-le-suc (no-longer a b (r .1) (s .1) (after e))) (λ ne. le-trans (no-longer (x ∷ a) b r (s .1) (beyond ne)) (le-suc (length b)))
+  where
+    -- the rest of the one stands in the rest of the other
+    after : x ≡ y → (S : ℕ) → Listed S a → Listed S b
+    after e S k = ⊎-elim (λ f. absurd (let z : ⊥ = omega (arith, r .0 S k) in z)) (λ l. l) (h S (inr k))
+
+    -- the whole of the one stands there: its first set is above y
+    low : ¬ (x ≡ y) → y < x
+    low ne = ⊎-elim (λ e. absurd (ne e)) (s .0 x) (h x (inl refl))
+
+    beyond : ¬ (x ≡ y) → (S : ℕ) → Listed S (x ∷ a) → Listed S b
+    beyond ne S k = ⊎-elim (λ f. absurd (let z : ⊥ = omega (arith, low ne, least) in z)) (λ l. l) (h S k)
+      where
+        least : x ≤ S
+        least = ⊎-elim (λ e. omega arith) (λ l. omega (arith, r .0 S l)) k
+
+module _ (n : ℕ) {given : List ℕ} (list : List ℕ) {scratch after : List ℕ} {found : ℕ} (grown : Grown (Branch given 0 (2 ^ n - 1)) 0 (length list) scratch found after)
+    (same : length after ≡ length scratch) (work : length list < length scratch) where
+  fits : found ≤ length after
+  fits = let m = grown .most in omega arith
+
+  -- what was found, all of it unless it is more than the room
+  found-cross : (S : ℕ) → Listed S (take found after) → SmallestCross n (λ M. Listed M given) S
+  found-cross S h = whole-branch n given S .0 (⊎-elim (λ k. absurd k) (λ b. b) (grown .sound S h))
+
+  found-turned : found ≤ length list → Turned n given (take found after)
+  found-turned l = record { rising = grown .rising; exact = λ S. (found-cross S, λ c. grown .whole l S (whole-branch n given S .1 c)) }
+
+  -- it fits, and is given out
+  pub gives-list : {listAfter scratchAfter : List ℕ} → found ≤ length list → listAfter ≡ take found after ++ drop found list
+      → scratchAfter ≡ replicate (length after) 0 → GivesOut n given list scratch (answered (GaveList found) listAfter scratchAfter)
+  gives-list l e z = record {
+    turned = take found after;
+    exact = found-turned l;
+    says = rw (e, z, same, length-take-le found after fits, le-ltb (length list) found l);
+  }
+
+  -- the turn is longer than the room
+  pub gives-too-many : {scratchAfter : List ℕ} → length list < found → scratchAfter ≡ replicate (length after) 0
+      → GivesOut n given list scratch (answered (Refused TooMany) list scratchAfter)
+  gives-too-many l z =
+      let t = turn-exists n given in
+      let longer : found ≤ length (t .0) = rw (length-take-le found after fits) at (no-longer (take found after) (t .0) (grown .rising) (t .1 .rising) (λ S h. t .1 .exact S .1 (found-cross S h))) in
+      record { turned = t .0; exact = t .1; says = rw (z, same, lt-ltb (length list) (length (t .0)) (omega arith)) }
+
+-- ---- the checks before it
+
+module _ (n : ℕ) (given list scratch : List ℕ) where
+  -- one of them refuses: nothing is written
+  pub turn-refused : (refusal : Refusal) → turnRefusal n given (length list) (length scratch) ≡ numberOf refusal
+      → Turns n given list scratch (answered (Refused refusal) list scratch)
+  turn-refused refusal e =
+      let t = turn-exists n given in
+      record { turned = t .0; exact = t .1; says = rw (e, ne-eqb (numberOf refusal) 0 (refused-number refusal)) }
+
+  -- all pass
+  pub turn-taken : (r : ListResult) → turnRefusal n given (length list) (length scratch) ≡ 0 → GivesOut n given list scratch r → Turns n given list scratch r
+  turn-taken r e g = record { turned = g .turned; exact = g .exact; says = rw e (g .says) }

@@ -1,0 +1,242 @@
+// Turn: from ways out to clashes and back (document 01, "Ways out and clashes" and "What comes back when it can't").
+use lent::clear;
+use lent::copy_out;
+use lent::fine;
+use numbers::Setting;
+use sets::EMPTY;
+use sets::SETTINGS_MOST;
+use sets::Set;
+use sets::full;
+use sets::has;
+use sets::meets;
+use sets::size;
+use sets::with;
+use sets::without;
+use setups::Refusal;
+use setups::SETS_MOST;
+ghost use mathlib.Core.Path.{_≡_};
+ghost use mathlib.Core.Logic.{_⊎_, _≢_, _↔_};
+ghost use mathlib.Core.List.{_++_};
+ghost use Prim.Native.Nat.{ℕ, _+_, _≤_, _<_};
+ghost use lib.ListN.{length, take, drop};
+ghost use Rattle.sets.specs.Sets.{In, Share, only};
+ghost use Rattle.setups.specs.Limits.{settingsMost};
+ghost use Rattle.turn.specs.Members.{Alone, Own, Finds};
+ghost use Rattle.turn.specs.Branches.{Branch, TurnsOn};
+ghost use Rattle.turn.specs.Growing.{placed, Ready, Grown};
+ghost use Rattle.turn.specs.Turning.{answered, GivesOut, Promises};
+
+// What Turn answers: it has listed so many sets, or refuses.
+pub enum Turning {
+    Listed(usize),
+    Refused(Refusal),
+}
+
+// What the taken settings leave unhit: nothing; a member that no setting left hits either; or a member that wants one of these
+// settings left.
+enum Unhit {
+    Nothing,
+    Lost,
+    Wants(Set),
+}
+
+// The taken setting that alone hits the member; the empty set where none or several do. A number and the one before it have nothing in
+// common where the number has one digit 1 only.
+fn alone(member: Set, taken: Set) -> Set
+    ensures { λ r. ⌜ ((i : ℕ) → In i r ↔ Alone member taken i) ⌝ }
+{
+    let hit = member & taken;
+    if hit == EMPTY {
+        return EMPTY;
+    }
+    if hit & (hit - 1) == EMPTY {
+        return hit;
+    }
+    EMPTY
+}
+
+// The taken settings that have a member of their own.
+fn own(members: &[Set], taken: Set) -> Set
+    ensures { λ r. ⌜ ((i : ℕ) → In i r ↔ Own (now (members .entry)) taken i) ⌝ }
+{
+    let mut found = EMPTY;
+    let mut i = 0;
+    while i < members.len() {
+        found = found | alone(members[i], taken);
+        i += 1;
+    }
+    found
+}
+
+// Of what two unhit members want the fewer settings; what the first wants where there is no other yet.
+fn fewer(wanted: Set, other: Set) -> Set
+    ensures { λ r. ⌜ (r ≡ wanted) ⊎ ((r ≡ other) × (other ≢ 0)) ⌝ }
+{
+    if other == EMPTY {
+        return wanted;
+    }
+    if size(wanted) < size(other) {
+        return wanted;
+    }
+    other
+}
+
+// What the taken settings leave unhit; of all unhit members it is the one with the fewest settings left.
+fn find_unhit(members: &[Set], taken: Set, left: Set) -> Unhit
+    ensures { λ r. ⌜ Finds (now (members .entry)) taken left r ⌝ }
+{
+    let mut fewest = EMPTY;
+    let mut i = 0;
+    while i < members.len() {
+        let member = members[i];
+        if !meets(taken, member) {
+            let wanted = member & left;
+            if wanted == EMPTY {
+                return Unhit::Lost;
+            }
+            fewest = fewer(wanted, fewest);
+        }
+        i += 1;
+    }
+    if fewest == EMPTY {
+        return Unhit::Nothing;
+    }
+    Unhit::Wants(fewest)
+}
+
+// The next setting, of those left that are wanted. The contract says no more, so that the choice can be tuned without a proof.
+fn choose(left: Set) -> Setting
+    requires { ⌜ left ≢ 0 ⌝ }
+    ensures { λ r. ⌜ Share left (only settingsMost (r .0)) ⌝ }
+{
+    let mut number: u32 = 1;
+    while !has(left, Setting(number)) {
+        number += 1;
+    }
+    Setting(number)
+}
+
+// Puts a set in its place among the first `filled`, which rise; the larger ones move on by one.
+fn insert(list: &mut [Set], filled: usize, set: Set)
+    requires { ⌜ filled < length (now list) ⌝ }
+    ensures { λ _. ⌜ now (list .exit) ≡ placed set (take filled (now (list .entry))) ++ drop (filled + 1) (now (list .entry)) ⌝ }
+{
+    let mut carried = set;
+    let mut i: usize = 0;
+    while i < filled {
+        let here = list[i];
+        if carried < here {
+            list[i] = carried;
+            carried = here;
+        }
+        i += 1;
+    }
+    list[filled] = carried;
+}
+
+// Adds the sets of the branch to the first `filled` of the scratch, until there are more than `room`; tells how many there are then. The
+// branch is empty where a taken setting has no member of its own left or a member can't be hit any more.
+fn branch(
+    members: &[Set],
+    taken: Set,
+    left: Set,
+    scratch: &mut [Set],
+    filled: usize,
+    room: usize,
+) -> usize
+    requires { ⌜ Ready (Branch (now members) taken left) filled room (now scratch) ⌝ }
+    ensures { λ r. ⌜ Grown (Branch (now (members .entry)) taken left) filled room (now (scratch .entry)) r (now (scratch .exit)) ⌝ }
+{
+    if own(members, taken) != taken {
+        return filled;
+    }
+    match find_unhit(members, taken, left) {
+        Unhit::Nothing => {
+            insert(scratch, filled, taken);
+            filled + 1
+        }
+        Unhit::Lost => filled,
+        Unhit::Wants(wanted) => split(members, taken, left, wanted, scratch, filled, room),
+    }
+}
+
+// The same for a branch each of whose sets has one of the settings `wanted`: takes one of them, then leaves it. Where the last of them
+// is left, nothing hits the member that wants them.
+fn split(
+    members: &[Set],
+    taken: Set,
+    left: Set,
+    wanted: Set,
+    scratch: &mut [Set],
+    filled: usize,
+    room: usize,
+) -> usize
+    requires { ⌜ TurnsOn (now members) taken left wanted ⌝ }
+    requires { ⌜ Ready (Branch (now members) taken left) filled room (now scratch) ⌝ }
+    ensures { λ r. ⌜ Grown (Branch (now (members .entry)) taken left) filled room (now (scratch .entry)) r (now (scratch .exit)) ⌝ }
+{
+    let setting = choose(wanted);
+    let fewer_left = without(left, setting);
+    let found = branch(
+        members,
+        with(taken, setting),
+        fewer_left,
+        scratch,
+        filled,
+        room,
+    );
+    if room < found {
+        return found;
+    }
+    let still_wanted = without(wanted, setting);
+    if still_wanted == EMPTY {
+        return found;
+    }
+    split(
+        members,
+        taken,
+        fewer_left,
+        still_wanted,
+        scratch,
+        found,
+        room,
+    )
+}
+
+// Finds the turn in the scratch and gives it out, if it fits; the scratch is zero afterwards.
+fn give_out(count: u32, given: &[Set], list: &mut [Set], scratch: &mut [Set]) -> Turning
+    requires { ⌜ (count ≤ settingsMost) × (length (now list) < length (now scratch)) ⌝ }
+    ensures { λ r. ⌜ GivesOut count (now (given .entry)) (now (list .entry)) (now (scratch .entry)) (answered r (now (list .exit)) (now (scratch .exit))) ⌝ }
+{
+    let room = list.len();
+    let found = branch(given, EMPTY, full(count), scratch, 0, room);
+    if room < found {
+        clear(scratch);
+        return Turning::Refused(Refusal::TooMany);
+    }
+    copy_out(scratch, list, found);
+    clear(scratch);
+    Turning::Listed(found)
+}
+
+// The smallest sets that share a setting with each given set.
+pub fn turn(count: u32, given: &[Set], list: &mut [Set], scratch: &mut [Set]) -> Turning
+    ensures { λ r. ⌜ Promises count (now (given .entry)) (now (list .entry)) (now (scratch .entry)) r (now (list .exit)) (now (scratch .exit)) ⌝ }
+{
+    if SETTINGS_MOST < count {
+        return Turning::Refused(Refusal::Softs);
+    }
+    if SETS_MOST < given.len() {
+        return Turning::Refused(Refusal::Size);
+    }
+    if SETS_MOST < list.len() {
+        return Turning::Refused(Refusal::Size);
+    }
+    if scratch.len() <= list.len() {
+        return Turning::Refused(Refusal::Work);
+    }
+    if !fine(count, given) {
+        return Turning::Refused(Refusal::List);
+    }
+    give_out(count, given, list, scratch)
+}
