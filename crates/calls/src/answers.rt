@@ -1,14 +1,18 @@
 // The answers: put into an output, lent with the place of the next byte, that is written to standard output when it is full and
 // at the end.
 use crate::fields::BYTE_DIGITS;
+use crate::fields::DIGITS;
 use crate::fields::EMPTY_RUN;
 use crate::fields::NUMBER_DIGITS;
 use crate::fields::SET_DIGITS;
 use crate::fields::SPACE;
 use libc::STDOUT_FILENO;
 use sets::Set;
+use setups::Refusal;
+use setups::refusal_number;
 ghost use Prim.Native.Nat.{_≤_};
 
+// How many bytes are collected at the most: the length of `io::large_buffer`.
 const OUTPUT_MOST: usize = 0x1_0000;
 
 pub type Output = [u8; OUTPUT_MOST];
@@ -16,10 +20,24 @@ pub type Output = [u8; OUTPUT_MOST];
 // The answer to a line that is no call.
 const NO_CALL: u8 = b'?';
 
-// What most answers begin with: the number, and the visits or the places filled.
+// How many bits of a value a digit stands for.
+const DIGIT_BITS: usize = 4;
+
+// What an answer begins with after its letter: the number, and the count that it tells (visits, variables or places filled).
 pub struct Outcome {
     pub number: u8,
     pub count: u64,
+}
+
+impl Outcome {
+    pub fn new(number: u8, count: u64) -> Self {
+        Self { number, count }
+    }
+
+    // A refusal tells no count.
+    pub fn refused(refusal: Refusal) -> Self {
+        Self::new(refusal_number(refusal), 0)
+    }
 }
 
 // Puts a byte at its place, and gives the next place. A full output is written and begun again first.
@@ -33,7 +51,7 @@ pub fn put(out: &mut Output, at: usize, byte: u8) -> usize {
     1
 }
 
-// Writes what was put since the output was last written.
+// Writes what was put since the output was last written: all of it where it is full.
 pub fn write_out(out: &Output, at: usize) {
     let all = &out[..];
     if at < all.len() {
@@ -49,15 +67,15 @@ pub fn put_no_call(out: &mut Output, at: usize) -> usize {
 
 // The last digit of a value.
 fn digit_of(value: u64) -> u8 {
-    let digit = (value % 16) as u8;
+    let digit = (value % DIGITS) as u8;
     if digit < 10 {
         b'0' + digit
     } else {
-        b'A' - 10 + digit
+        b'A' + digit - 10
     }
 }
 
-// Puts the last digits of a value, so many, the high one first.
+// Puts the last digits of a value, so many of its sixteen, the high one first.
 fn put_digits(out: &mut Output, at: usize, value: u64, digits: usize) -> usize
     requires { ⌜ digits ≤ 16 ⌝ }
 {
@@ -65,7 +83,7 @@ fn put_digits(out: &mut Output, at: usize, value: u64, digits: usize) -> usize
     let mut left = digits;
     while 0 < left {
         left -= 1;
-        next = put(out, next, digit_of(value >> (4 * left)));
+        next = put(out, next, digit_of(value >> (DIGIT_BITS * left)));
     }
     next
 }
@@ -99,7 +117,7 @@ pub fn put_sets(out: &mut Output, at: usize, sets: &[Set]) -> usize {
     next
 }
 
-// Puts the letter and the outcome that an answer begins with.
+// Puts the letter and the outcome.
 pub fn put_outcome(out: &mut Output, at: usize, letter: u8, outcome: Outcome) -> usize {
     let after_letter = put(out, at, letter);
     let after_number = put_number(out, after_letter, outcome.number as u64);

@@ -1,4 +1,4 @@
-// A count clauses assumed budget modelroom: A number visits model.
+// A call of Ask, `A count clauses assumed budget modelroom`, and its answer, `A number visits model`.
 use crate::answers;
 use crate::answers::Outcome;
 use crate::answers::Output;
@@ -17,18 +17,9 @@ fn is_call(line: &[u8]) -> bool {
 
 fn outcome_of(asked: Asked) -> Outcome {
     match asked {
-        Asked::Model(visits) => Outcome {
-            number: setups::FINISHED,
-            count: visits as u64,
-        },
-        Asked::None(visits) => Outcome {
-            number: setups::NO_MODEL,
-            count: visits as u64,
-        },
-        Asked::Refused(refusal) => Outcome {
-            number: setups::refusal_number(refusal),
-            count: 0,
-        },
+        Asked::Model(visits) => Outcome::new(setups::FINISHED, visits as u64),
+        Asked::None(visits) => Outcome::new(setups::NO_MODEL, visits as u64),
+        Asked::Refused(refusal) => Outcome::refused(refusal),
     }
 }
 

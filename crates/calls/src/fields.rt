@@ -1,5 +1,5 @@
 // The fields of a line, one space between two; the letter is field 0. A field is a number, a run of bytes or a run of sets, in
-// upper-case hexadecimal digits. Each reader has a value for whatever stands there; the tests say whether it stands for one.
+// upper-case hexadecimal digits. A reader takes whatever stands there; the tests, `is_..`, tell whether it is right.
 use crate::places::BYTES_MOST;
 use crate::places::SETS_MOST;
 use bytes::scan::find;
@@ -22,7 +22,7 @@ pub const EMPTY_RUN: u8 = b'-';
 const NO_LETTER: u8 = 0;
 
 // How many values a digit, a byte and a number have, and fifteen digits, after which one more fits 64 bits.
-const DIGITS: u64 = 0x10;
+pub const DIGITS: u64 = 0x10;
 
 const BYTES: u64 = 0x100;
 
@@ -53,7 +53,7 @@ fn from_field(line: &[u8], index: usize) -> &[u8] {
     rest
 }
 
-// A field; empty, which stands for no value, where the line has none.
+// A field; empty, which no test takes, where the line has none.
 fn field(line: &[u8], index: usize) -> &[u8] {
     let rest = from_field(line, index);
     let end = find(rest, 0, rest.len(), SPACE);
@@ -84,9 +84,9 @@ fn digit_value(byte: u8) -> u8 {
     }
 }
 
-fn all_digits(field: &[u8]) -> bool {
-    for i in 0..field.len() {
-        if digit_value(field[i]) == NO_DIGIT {
+fn all_digits(text: &[u8]) -> bool {
+    for i in 0..text.len() {
+        if digit_value(text[i]) == NO_DIGIT {
             return false;
         }
     }
@@ -94,10 +94,10 @@ fn all_digits(field: &[u8]) -> bool {
 }
 
 // What the last sixteen digits stand for, the high one first.
-fn value(field: &[u8]) -> u64 {
+fn value(digits: &[u8]) -> u64 {
     let mut value = 0;
-    for i in 0..field.len() {
-        value = value % FIFTEEN_DIGITS * DIGITS + digit_value(field[i]) as u64 % DIGITS;
+    for i in 0..digits.len() {
+        value = value % FIFTEEN_DIGITS * DIGITS + digit_value(digits[i]) as u64 % DIGITS;
     }
     value
 }
@@ -145,13 +145,14 @@ pub fn is_sets(line: &[u8], index: usize) -> bool {
     is_run(field(line, index), SET_DIGITS, SETS_MOST)
 }
 
+// The tests let no count through that is above the places; with the lesser of the two the readers rely on no test.
 fn least(a: usize, b: usize) -> usize
     ensures { λ r. ⌜ (r ≤ a) × (r ≤ b) ⌝ }
 {
     if a < b { a } else { b }
 }
 
-// As many places as the field's number says.
+// As many of the places as the field's number says.
 pub fn byte_room<'a>(line: &[u8], index: usize, places: &'a mut [u8]) -> &'a mut [u8] {
     let count = least(number_of(line, index) as usize, places.len());
     &mut places[0..count]

@@ -3,6 +3,7 @@
 mod answers;
 mod ask_call;
 mod fields;
+mod list_call;
 mod mark_call;
 mod places;
 mod read_call;
@@ -16,7 +17,7 @@ use answers::write_out;
 use bytes::scan::find;
 use libc::STDIN_FILENO;
 
-// How many bytes of input are taken at the most.
+// How many bytes of input are taken at the most: 2 MiB.
 const INPUT_MOST: usize = 0x20_0000;
 
 type Input = [u8; INPUT_MOST];
@@ -29,6 +30,7 @@ fn answer(line: &[u8], out: &mut Output, at: usize) -> usize {
     let letter = fields::letter(line);
     let end = match letter {
         b'A' => ask_call::answer(line, out, at),
+        b'L' => list_call::answer(line, out, at),
         b'T' => turn_call::answer(line, out, at),
         b'M' => mark_call::answer(line, out, at),
         b'R' => read_call::answer(line, out, at),

@@ -1,4 +1,4 @@
-// M settings list markroom: M number filled marks.
+// A call of Mark, `M settings list markroom`, and its answer, `M number filled marks`.
 use crate::answers;
 use crate::answers::Outcome;
 use crate::answers::Output;
@@ -15,14 +15,8 @@ fn is_call(line: &[u8]) -> bool {
 
 fn outcome_of(marking: Marking) -> Outcome {
     match marking {
-        Marking::Marked(filled) => Outcome {
-            number: setups::FINISHED,
-            count: filled as u64,
-        },
-        Marking::Refused(refusal) => Outcome {
-            number: setups::refusal_number(refusal),
-            count: 0,
-        },
+        Marking::Marked(filled) => Outcome::new(setups::FINISHED, filled as u64),
+        Marking::Refused(refusal) => Outcome::refused(refusal),
     }
 }
 

@@ -1,4 +1,4 @@
-// R text hardroom softroom: R number count hardfilled softfilled hard soft.
+// A call of Read, `R text hardroom softroom`, and its answer, `R number count hardfilled softfilled hard soft`.
 use crate::answers;
 use crate::answers::Outcome;
 use crate::answers::Output;
@@ -13,7 +13,7 @@ fn is_call(line: &[u8]) -> bool {
         && fields::is_last(line, 3)
 }
 
-// Puts the outcome, which here has the variable count, and the places filled of each buffer.
+// Puts the outcome, whose count is the variables', and how many places of each buffer were filled.
 fn put_counts(out: &mut Output, at: usize, outcome: Outcome, hard: u64, soft: u64) -> usize {
     let after_count = answers::put_outcome(out, at, b'R', outcome);
     let after_hard = answers::put_number(out, after_count, hard);
@@ -23,19 +23,10 @@ fn put_counts(out: &mut Output, at: usize, outcome: Outcome, hard: u64, soft: u6
 fn put_reading(out: &mut Output, at: usize, reading: Reading) -> usize {
     match reading {
         Reading::Read { count, hard, soft } => {
-            let outcome = Outcome {
-                number: setups::FINISHED,
-                count: count as u64,
-            };
+            let outcome = Outcome::new(setups::FINISHED, count as u64);
             put_counts(out, at, outcome, hard as u64, soft as u64)
         }
-        Reading::Refused(refusal) => {
-            let outcome = Outcome {
-                number: setups::refusal_number(refusal),
-                count: 0,
-            };
-            put_counts(out, at, outcome, 0, 0)
-        }
+        Reading::Refused(refusal) => put_counts(out, at, Outcome::refused(refusal), 0, 0),
     }
 }
 

@@ -1,4 +1,4 @@
-// T settings list room scratchroom: T number filled list scratch.
+// A call of Turn, `T settings list room scratchroom`, and its answer, `T number filled list scratch`.
 use crate::answers;
 use crate::answers::Outcome;
 use crate::answers::Output;
@@ -16,14 +16,8 @@ fn is_call(line: &[u8]) -> bool {
 
 fn outcome_of(turning: Turning) -> Outcome {
     match turning {
-        Turning::Listed(filled) => Outcome {
-            number: setups::FINISHED,
-            count: filled as u64,
-        },
-        Turning::Refused(refusal) => Outcome {
-            number: setups::refusal_number(refusal),
-            count: 0,
-        },
+        Turning::Listed(filled) => Outcome::new(setups::FINISHED, filled as u64),
+        Turning::Refused(refusal) => Outcome::refused(refusal),
     }
 }
 

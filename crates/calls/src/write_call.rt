@@ -1,4 +1,4 @@
-// W count hard soft textroom: W number filled text.
+// A call of Write, `W count hard soft textroom`, and its answer, `W number filled text`.
 use crate::answers;
 use crate::answers::Outcome;
 use crate::answers::Output;
@@ -16,14 +16,8 @@ fn is_call(line: &[u8]) -> bool {
 
 fn outcome_of(writing: Writing) -> Outcome {
     match writing {
-        Writing::Written(filled) => Outcome {
-            number: setups::FINISHED,
-            count: filled as u64,
-        },
-        Writing::Refused(refusal) => Outcome {
-            number: setups::refusal_number(refusal),
-            count: 0,
-        },
+        Writing::Written(filled) => Outcome::new(setups::FINISHED, filled as u64),
+        Writing::Refused(refusal) => Outcome::refused(refusal),
     }
 }
 

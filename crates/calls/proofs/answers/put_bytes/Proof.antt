@@ -2,7 +2,6 @@
 use Prim.Native.Nat.{_-_}
 use mathlib.Core.Path.{_≡_}
 use native.Mathlib.Omega.{arith}
-use borrow.Author.Needs.{needs}
 use lib.ListN.{length}
 use Rattle.calls.proofs.answers.put_bytes.Statement.{statement}
 use Rattle.calls.proofs.answers.put_bytes.Tie as tie

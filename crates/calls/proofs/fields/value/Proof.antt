@@ -1,4 +1,4 @@
--- `fields::value` is safe and ends. The measure is what is left of the field.
+-- `fields::value` is safe and ends. The measure is the digits that are left.
 use mathlib.Core.Path.{_≡_}
 use Prim.Native.Nat.{_-_}
 use native.Mathlib.Omega.{arith}
@@ -7,10 +7,10 @@ use Rattle.calls.proofs.fields.value.Statement.{statement}
 use Rattle.calls.proofs.fields.value.Tie as tie
 
 abbrev Inv-loop : tie.InvT-loop
-Inv-loop field value₀ i₀ i-end value i = i-end ≡ length field
+Inv-loop digits value₀ i₀ i-end value i = i-end ≡ length digits
 
 abbrev μ-loop : tie.MeasureT-loop
-μ-loop field value₀ i₀ i-end value i = i-end - i
+μ-loop digits value₀ i₀ i-end value i = i-end - i
 
 pub value-spec : {M : Type 1} → statement M
 value-spec =

@@ -1,0 +1,4 @@
+-- What the walk and the job promise.
+pub mod Walking
+pub mod Answer
+pub mod Meaning

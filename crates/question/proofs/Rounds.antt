@@ -1,0 +1,162 @@
+-- Rounds of the rules: one round, and one after another.
+use mathlib.Core.Path.{_≡_, refl, sym, ap, _∙_, subst}
+use mathlib.Core.Logic.{_≢_, _↔_}
+use mathlib.Core.Bool.{Bool, true, false, cond, _&&_, true≢false, false≢true}
+use mathlib.Core.List.{List, []}
+use Prim.Native.Nat.{ℕ, _+_, _-_, _*_, _^_, _≤_, _<_, min}
+use native.Mathlib.Nat.{le-refl}
+use native.Mathlib.Omega.{arith}
+use lib.Dec.{T, ltb}
+use lib.ListN.{length, getD}
+use Rattle.sets.specs.Sets.{In, Within}
+use Rattle.sets.specs.Tests.{has}
+use Rattle.sets.proofs.Deciding.{and-right, bool-case, cond-case}
+use Rattle.sets.proofs.Digits.{in-below, within-le, within-trans, within-self}
+use Rattle.sets.proofs.Tests.{has-in}
+use Rattle.setups.specs.Limits.{settingsMost}
+use Rattle.setups.specs.Clauses.{clauses}
+use Rattle.setups.specs.Setups.{settings}
+use Rattle.setups.specs.Searching.{freeCount}
+use Rattle.question.specs.Tests.{isTrue, mayBe, passes, passesAt, holds, Asked}
+use Rattle.question.specs.Founds.{Each, Fit, Narrows}
+use Rattle.question.specs.Selectors.{Owing}
+use Rattle.question.specs.Values.{Decided, Agrees}
+use Rattle.question.specs.Steps.{Step, unmoved}
+use Rattle.question.specs.Standings.{Stands}
+use Rattle.question.specs.Searches.{failing, Settles}
+use Rattle.question.specs.declared.forcing.Forced.{Forced}
+use Rattle.question.specs.declared.found.Narrowed.{Narrowed}
+use Rattle.question.specs.declared.selectors.Owed.the-variants.{Every, Only}
+use Rattle.question.specs.declared.searching.Round.{Round}
+use Rattle.question.specs.declared.standing.Standing.{Standing}
+use Rattle.question.proofs.Verdicts.{verdict-clause, verdict-setting}
+use Rattle.question.proofs.StepLaws.{step-weaker, step-then}
+use Rattle.question.proofs.TestLaws.{holds-more, all-at, true-may}
+
+-- ---- what is asked, as the passes take it
+
+-- each kept setting's clause is owed
+pub asked-kept : (kept : ℕ) (hard soft found : List ℕ) (test : ℕ → Bool) → kept < 2 ^ settingsMost → Asked kept hard soft found test
+    → Owing (Only kept) test soft
+asked-kept kept hard soft found test small asked i l h =
+    let e : min i settingsMost ≡ i = let k = in-below settingsMost small h in omega arith in
+    let held = asked .fit .keeps i (subst (λ (x : ℕ). In x kept) e h) in
+    subst T (verdict-setting test soft i ∙ verdict-clause test (clauses soft) i)
+    (and-right (ltb i settingsMost) (passesAt test (settings soft) i) held)
+
+-- and each hard clause
+pub asked-hard : (kept : ℕ) (hard soft found : List ℕ) (test : ℕ → Bool) → Asked kept hard soft found test → Owing Every test hard
+asked-hard kept hard soft found test asked i l h = all-at test (clauses hard) (asked .rules) i l
+
+-- ---- one round
+
+module _ (kept : ℕ) (hard soft found values : List ℕ) where
+  -- from a step that fails
+  pub settles-stuck : (forced : Forced) → Step (λ m. Asked kept hard soft found (isTrue m)) (unmoved values) forced → forced .fails ≡ true
+      → Settles kept hard soft found values (failing (forced .values) kept)
+  settles-stuck forced step fails = record {
+    less = step .less;
+    grows = within-self kept;
+    moves = λ e. absurd (false≢true e);
+    stands = λ e. absurd (true≢false e);
+    stays = λ m d asked agrees. absurd (true≢false (sym fails ∙ step .stays m d asked agrees .0));
+  }
+
+  module _ (forced : Forced) (step : Step (λ m. Asked kept hard soft found (isTrue m)) (unmoved values) forced)
+      (standing : Standing) (stands : Stands (forced .values) soft standing) where
+    -- what holds in the end is possible
+    possible : (m : List ℕ) → Agrees (forced .values) m → (i : ℕ) → T (holds (isTrue m) soft i) → In i (standing .possible)
+    possible m agrees i t =
+        has-in (standing .possible) i
+        (subst T (sym (stands .possible i)) (holds-more (isTrue m) (mayBe (forced .values)) (true-may (forced .values) m agrees) soft i t))
+
+    module _ (narrowed : Narrowed) (narrows : Narrows kept (standing .possible) found narrowed) where
+      narrowed-for : (m : List ℕ) → Decided m → Asked kept hard soft found (isTrue m) → Agrees values m
+          → (narrowed .fails ≡ false) × Each (narrowed .kept) (holds (isTrue m) soft)
+      narrowed-for m d asked agrees =
+          narrows .stays (holds (isTrue m) soft) (possible m (step .stays m d asked agrees .1)) (asked .fit)
+
+      -- some found set has no setting left
+      pub settles-dead : narrowed .fails ≡ true → Settles kept hard soft found values (failing (forced .values) kept)
+      settles-dead fails = record {
+        less = step .less;
+        grows = within-self kept;
+        moves = λ e. absurd (false≢true e);
+        stands = λ e. absurd (true≢false e);
+        stays = λ m d asked agrees. absurd (true≢false (sym fails ∙ narrowed-for m d asked agrees .0));
+      }
+
+      -- no more is kept
+      pub settles-same : narrowed .kept ≡ kept
+          → Settles kept hard soft found values (record { fails = false; moved = forced .moved; kept = kept; standing = standing; values = forced .values })
+      settles-same e = record {
+        less = step .less;
+        grows = within-self kept;
+        moves = λ t. omega (arith, step .moves refl t);
+        stands = λ _. stands;
+        stays = λ m d asked agrees. (refl, step .stays m d asked agrees .1, asked .fit .keeps);
+      }
+
+      -- more is kept
+      pub settles-wider : narrowed .kept ≢ kept
+          → Settles kept hard soft found values (record { fails = false; moved = true; kept = narrowed .kept; standing = standing; values = forced .values })
+      settles-wider n = record {
+        less = step .less;
+        grows = narrows .grows;
+        moves = λ t. omega (arith, step .less, within-le kept (narrowed .kept) (narrows .grows));
+        stands = λ _. stands;
+        stays = λ m d asked agrees. (refl, step .stays m d asked agrees .1, narrowed-for m d asked agrees .1);
+      }
+
+-- the two passes one after the other
+pub round-keeps : (kept : ℕ) (hard soft found values : List ℕ) (keeps : Forced) → kept < 2 ^ settingsMost
+    → Step (λ m. Owing (Only kept) (isTrue m) soft) (unmoved values) keeps → Step (λ m. Asked kept hard soft found (isTrue m)) (unmoved values) keeps
+round-keeps kept hard soft found values keeps small step =
+    step-weaker (λ m. Asked kept hard soft found (isTrue m)) (λ m. Owing (Only kept) (isTrue m) soft) (unmoved values) keeps step
+    (λ m asked. asked-kept kept hard soft found (isTrue m) small asked)
+
+pub round-rules : (kept : ℕ) (hard soft found values : List ℕ) (keeps rules : Forced)
+    → Step (λ m. Asked kept hard soft found (isTrue m)) (unmoved values) keeps → Step (λ m. Owing Every (isTrue m) hard) keeps rules
+    → Step (λ m. Asked kept hard soft found (isTrue m)) (unmoved values) rules
+round-rules kept hard soft found values keeps rules first second =
+    step-then (λ m. Asked kept hard soft found (isTrue m)) (λ m. Owing Every (isTrue m) hard) (unmoved values) keeps rules first second
+    (λ m d asked agrees. asked-hard kept hard soft found (isTrue m) asked)
+
+-- ---- one round after another
+
+-- what is asked, with more kept that holds
+pub asked-wider : (kept wider : ℕ) (hard soft found : List ℕ) (test : ℕ → Bool) → Asked kept hard soft found test → Each wider (holds test soft)
+    → Asked wider hard soft found test
+asked-wider kept wider hard soft found test asked each = record { rules = asked .rules; fit = record { keeps = each; each = asked .fit .each } }
+
+-- and with less kept
+pub asked-narrower : (kept wider : ℕ) (hard soft found : List ℕ) (test : ℕ → Bool) → Within kept wider → Asked wider hard soft found test
+    → Asked kept hard soft found test
+asked-narrower kept wider hard soft found test w asked = record {
+  rules = asked .rules;
+  fit = record { keeps = λ i h. asked .fit .keeps i (w i h); each = asked .fit .each };
+}
+
+module _ (kept : ℕ) (hard soft found values : List ℕ) (r s : Round) (first : Settles kept hard soft found values r)
+    (second : Settles (r .kept) hard soft found (r .values) s) where
+  pub settles-on : Settles kept hard soft found values s
+  settles-on = record {
+    less = omega (arith, first .less, second .less);
+    grows = within-trans kept (r .kept) (s .kept) (first .grows) (second .grows);
+    moves = λ t. omega (arith, first .less, second .moves t, within-le kept (r .kept) (first .grows));
+    stands = second .stands;
+    stays = λ m d asked agrees.
+        let was = first .stays m d asked agrees in
+        second .stays m d (asked-wider kept (r .kept) hard soft found (isTrue m) asked (was .2)) (was .1);
+  }
+
+-- how much is left to do: values to set and settings to keep, and a last round
+abbrev pub left : Round → ℕ
+left r = 2 * (freeCount (r .values) + (2 ^ settingsMost - r .kept)) + cond (r .moved) 1 0
+
+pub left-less : (hard soft found : List ℕ) (r s : Round) → r .moved ≡ true → s .kept < 2 ^ settingsMost
+    → Settles (r .kept) hard soft found (r .values) s → left s < left r
+left-less hard soft found r s t small next =
+    rw t (bool-case (λ q. s .moved ≡ q → 2 * (freeCount (s .values) + (2 ^ settingsMost - s .kept)) + cond q 1 0 < 2 * (freeCount (r .values) + (2 ^ settingsMost - r .kept)) + 1)
+    (s .moved) (λ _ e. omega (arith, next .moves e, within-le (r .kept) (s .kept) (next .grows)))
+    (λ _ e. omega (arith, next .less, within-le (r .kept) (s .kept) (next .grows))) refl)

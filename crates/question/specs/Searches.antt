@@ -1,0 +1,49 @@
+-- What settling, choosing and searching promise.
+use mathlib.Core.Path.{_≡_}
+use mathlib.Core.Bool.{Bool, true, false}
+use mathlib.Core.List.{List}
+use Prim.Native.Nat.{ℕ, _+_, _≤_, _<_}
+use lib.Dec.{T}
+use lib.ListN.{getD}
+use Rattle.sets.specs.Sets.{Within}
+use Rattle.sets.specs.Tests.{has}
+use Rattle.setups.specs.Clauses.{clauses}
+use Rattle.setups.specs.Searching.{freeCount}
+use Rattle.question.specs.Tests.{slot, isTrue, allPass, holds, Asked}
+use Rattle.question.specs.Founds.{Each, Fit}
+use Rattle.question.specs.Values.{Decided, Agrees}
+use Rattle.question.specs.Standings.{Stands}
+use Rattle.question.specs.declared.searching.Round.{Round}
+use Rattle.question.specs.declared.choosing.Choice.{Choice}
+use Rattle.question.specs.declared.choosing.Choice.the-variants.{Literal, Nothing}
+use Rattle.question.specs.declared.searching.Sought.{Sought}
+
+-- a round that fails
+abbrev pub failing : List ℕ → ℕ → Round
+failing values kept = record { fails = true; moved = false; kept = kept; standing = record { sure = 0; possible = 0 }; values = values }
+
+-- From the values and the kept settings to those of r: what meets what is asked and agrees with the values agrees with those of r and
+-- makes its kept settings true, and then r does not fail. Where r has moved, fewer values are free or more settings are kept.
+pub record Settles (kept : ℕ) (hard soft found values : List ℕ) (r : Round) : Type 0 where
+  pub less : freeCount (r .values) ≤ freeCount values
+  pub grows : Within kept (r .kept)
+  pub moves : r .moved ≡ true → freeCount (r .values) + kept < freeCount values + r .kept
+  pub stands : r .fails ≡ false → Stands (r .values) soft (r .standing)
+  pub stays : (m : List ℕ) → Decided m → Asked kept hard soft found (isTrue m) → Agrees values m
+      → (r .fails ≡ false) × Agrees (r .values) m × Each (r .kept) (holds (isTrue m) soft)
+
+-- what is asked is met so far, where the settings of `sure` are true
+pub record Done (kept sure : ℕ) (values hard found : List ℕ) : Type 0 where
+  pub rules : T (allPass (isTrue values) (clauses hard))
+  pub fit : Fit kept found (has sure)
+
+-- the variable is free; there is none only where no variable is free
+abbrev pub Chosen : List ℕ → Choice → Type 0
+Chosen values (Literal b) = 1 < getD values (slot b) 0
+Chosen values Nothing = Decided values
+
+-- What a search from the values tells: either every assignment that agrees with those of r is an answer, or, where it fails, none
+-- that agrees with the values is one.
+pub record Told (Answer : List ℕ → Type 0) (values : List ℕ) (r : Sought) : Type 0 where
+  pub finds : r .fails ≡ false → (m : List ℕ) → Agrees (r .values) m → Answer m
+  pub fails : r .fails ≡ true → (m : List ℕ) → Decided m → Agrees values m → Answer m → ⊥

@@ -1,0 +1,46 @@
+// The question under List: is there a model that meets what is asked, and which settings does it make true?
+mod choosing;
+mod forcing;
+mod found;
+mod searching;
+mod selectors;
+mod standing;
+mod values;
+
+use forcing::give_up;
+use searching::seek;
+use sets::Set;
+use sets::full;
+use setups::settings_count;
+use standing::stand;
+use values::complete;
+use values::opening;
+ghost use Rattle.setups.specs.Setups.{setup};
+ghost use Rattle.setups.specs.Taken.{Taken};
+ghost use Rattle.question.specs.Asking.{Says};
+
+// Yes, with the settings that a model makes true which meets what is asked; No, where no such model breaks every given-up setting.
+pub enum Reply {
+    Yes(Set),
+    No,
+}
+
+// Given-up settings are broken once, before the search; a set may name settings that there are not.
+pub fn question(count: u32, hard: &[u8], soft: &[u8], kept: Set, given: Set, found: &[Set]) -> Reply
+    requires { ⌜ Taken (setup count (now hard) (now soft)) ⌝ }
+    ensures { λ r. ⌜ Says (setup count (now (hard .entry)) (now (soft .entry))) kept given (now (found .entry)) r ⌝ }
+{
+    let all = full(settings_count(soft) as u32);
+    let start = give_up(opening(count), given & all, soft);
+    if start.fails {
+        return Reply::No;
+    }
+    let values = start.values;
+    let sought = seek(values, kept & all, hard, soft, found);
+    if sought.fails {
+        return Reply::No;
+    }
+    let reached = sought.values;
+    let standing = stand(complete(reached), soft);
+    Reply::Yes(standing.sure)
+}

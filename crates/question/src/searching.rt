@@ -1,0 +1,146 @@
+// The search of the question: settle, and split on what the chooser says. It stops as soon as what is asked is met.
+use crate::choosing::Choice;
+use crate::choosing::choose;
+use crate::forcing::force;
+use crate::forcing::start;
+use crate::found::fits;
+use crate::found::narrow;
+use crate::selectors::Owed;
+use crate::standing::Standing;
+use crate::standing::met;
+use crate::standing::stand;
+use crate::values::Values;
+use crate::values::with_false;
+use crate::values::with_true;
+use sets::EMPTY;
+use sets::Set;
+ghost use mathlib.Core.Path.{_≡_};
+ghost use mathlib.Core.Bool.{true};
+ghost use mathlib.Core.Logic.{_↔_};
+ghost use Rattle.question.specs.Tests.{isTrue, Asked};
+ghost use Rattle.question.specs.Searches.{failing, Settles, Done, Told};
+
+// The values and kept settings after each rule was put to use once; whether that made a difference; how the settings stand then.
+pub struct Round {
+    pub fails: bool,
+    pub moved: bool,
+    pub kept: Set,
+    pub standing: Standing,
+    pub values: Values,
+}
+
+// What a search ends with: it fails, or with these values, whatever the free ones become, what is asked is met.
+pub struct Sought {
+    pub fails: bool,
+    pub values: Values,
+}
+
+// A round that fails.
+fn failed(values: Values, kept: Set) -> Round
+    ensures { λ r. ⌜ r ≡ failing values kept ⌝ }
+{
+    Round {
+        fails: true,
+        moved: false,
+        kept,
+        standing: Standing {
+            sure: EMPTY,
+            possible: EMPTY,
+        },
+        values,
+    }
+}
+
+// The kept settings, the hard clauses and the found sets, each once.
+fn one_round(values: Values, kept: Set, hard: &[u8], soft: &[u8], found: &[Set]) -> Round
+    ensures { λ r. ⌜ Settles kept (now (hard .entry)) (now (soft .entry)) (now (found .entry)) values r ⌝ }
+{
+    let keeps = force(start(values), Owed::Only(kept), soft);
+    if keeps.fails {
+        let now = keeps.values;
+        return failed(now, kept);
+    }
+    let rules = force(keeps, Owed::Every, hard);
+    let now = rules.values;
+    if rules.fails {
+        return failed(now, kept);
+    }
+    let standing = stand(now, soft);
+    let narrowed = narrow(kept, standing.possible, found);
+    if narrowed.fails {
+        return failed(now, kept);
+    }
+    if narrowed.kept == kept {
+        return Round {
+            fails: false,
+            moved: rules.moved,
+            kept,
+            standing,
+            values: now,
+        };
+    }
+    Round {
+        fails: false,
+        moved: true,
+        kept: narrowed.kept,
+        standing,
+        values: now,
+    }
+}
+
+// Rounds until one makes no difference.
+pub fn settle(values: Values, kept: Set, hard: &[u8], soft: &[u8], found: &[Set]) -> Round
+    ensures { λ r. ⌜ Settles kept (now (hard .entry)) (now (soft .entry)) (now (found .entry)) values r ⌝ }
+{
+    let mut last = one_round(values, kept, hard, soft, found);
+    while last.moved {
+        let now = last.values;
+        last = one_round(now, last.kept, hard, soft, found);
+    }
+    last
+}
+
+// What is asked is met, whatever the free values become.
+fn done(round: Round, hard: &[u8], found: &[Set]) -> bool
+    ensures { λ r. ⌜ (r ≡ true) ↔ Done (round .kept) (round .standing .sure) (round .values) (now (hard .entry)) (now (found .entry)) ⌝ }
+{
+    let standing = round.standing;
+    if fits(round.kept, standing.sure, found) {
+        let values = round.values;
+        return met(values, hard);
+    }
+    false
+}
+
+// One side of a split after the other.
+pub fn seek(values: Values, kept: Set, hard: &[u8], soft: &[u8], found: &[Set]) -> Sought
+    ensures { λ r. ⌜ Told (λ m. Asked kept (now (hard .entry)) (now (soft .entry)) (now (found .entry)) (isTrue m)) values r ⌝ }
+{
+    let settled = settle(values, kept, hard, soft, found);
+    let now = settled.values;
+    if settled.fails {
+        return Sought {
+            fails: true,
+            values: now,
+        };
+    }
+    if done(settled, hard, found) {
+        return Sought {
+            fails: false,
+            values: now,
+        };
+    }
+    match choose(settled, hard, soft, found) {
+        Choice::Nothing => Sought {
+            fails: true,
+            values: now,
+        },
+        Choice::Literal(literal) => {
+            let first = seek(with_true(now, literal), settled.kept, hard, soft, found);
+            if first.fails {
+                return seek(with_false(now, literal), settled.kept, hard, soft, found);
+            }
+            first
+        }
+    }
+}

@@ -1,0 +1,3 @@
+-- The refutations.
+pub mod Enumeration
+pub mod Lists
