@@ -22,9 +22,13 @@ fn put_counts(out: &mut Output, at: usize, outcome: Outcome, hard: u64, soft: u6
 
 fn put_reading(out: &mut Output, at: usize, reading: Reading) -> usize {
     match reading {
-        Reading::Read { count, hard, soft } => {
+        Reading::Read {
+            count,
+            hard_filled,
+            soft_filled,
+        } => {
             let outcome = Outcome::new(setups::FINISHED, count as u64);
-            put_counts(out, at, outcome, hard as u64, soft as u64)
+            put_counts(out, at, outcome, hard_filled as u64, soft_filled as u64)
         }
         Reading::Refused(refusal) => put_counts(out, at, Outcome::refused(refusal), 0, 0),
     }

@@ -1,27 +1,27 @@
 -- The checking pass: what the frame at a place tells, and how the pass goes on from there.
 use mathlib.Core.Path.{_≡_, refl, sym, ap, _∙_, subst}
 use mathlib.Core.List.{List, [], _∷_, _++_}
-use Prim.Native.Nat.{ℕ, suc, _+_, _*_, _≤_, _<_}
+use Prim.Native.Nat.{ℕ, _+_, _≤_, _<_}
 use native.Mathlib.Numerals.{add-one}
 use native.Mathlib.Omega.{arith}
 use lib.ListN.{length, drop, length-append}
 use Rattle.frames.specs.declared.frames.Found.{Found}
 use Rattle.frames.specs.declared.frames.Found.the-variants.{Header, Hard, Soft, End, NoFrame}
 use Rattle.frames.specs.declared.reading.Checked.the-variants.{Good, Bad}
-use Rattle.frames.specs.Frames.{lines, Frame, header, hard, soft, end, noFrame, frame, frameBytes}
+use Rattle.frames.specs.Frames.{lines, Frame, header, hard, soft, end, noFrame, frame}
 use Rattle.frames.specs.Texts.{fresh, under, over, broken, ending, next, follow, afterHeader, judge}
-use Rattle.frames.specs.Found.{found, foundAt, checked}
+use Rattle.frames.specs.Found.{after, found, foundAt, checked}
 use Rattle.frames.proofs.Lines.{first}
-use Rattle.frames.proofs.Following.{Real, follow-end, follow-frame, follow-bad, broken-stays}
+use Rattle.frames.proofs.Following.{Real, follow-end, follow-frame, follow-bad}
 
 -- ---- which frame is found
 
 -- f is the frame that the reader found at a place
 abbrev pub Tells : ℕ → Frame → Found → Type 0
-Tells at f (Header count place) = (f ≡ header count) × (place ≡ at + 5)
-Tells at f (Hard k place) = (ls : List ℕ) × (f ≡ hard ls) × (k ≡ length ls) × (place ≡ at + (2 * length ls + 3))
-Tells at f (Soft k place) = (ls : List ℕ) × (f ≡ soft ls) × (k ≡ length ls) × (place ≡ at + (2 * length ls + 3))
-Tells at f (End place) = (f ≡ end) × (place ≡ at + 3)
+Tells at f (Header count place) = (f ≡ header count) × (place ≡ after at (header count))
+Tells at f (Hard k place) = (ls : List ℕ) × (f ≡ hard ls) × (k ≡ length ls) × (place ≡ after at (hard ls))
+Tells at f (Soft k place) = (ls : List ℕ) × (f ≡ soft ls) × (k ≡ length ls) × (place ≡ after at (soft ls))
+Tells at f (End place) = (f ≡ end) × (place ≡ after at end)
 Tells at f NoFrame = f ≡ noFrame
 
 tells : (at : ℕ) (f : Frame) → Tells at f (found at f)
@@ -58,7 +58,7 @@ module _ (t : List ℕ) (from count hards softs line at : ℕ) (u : Underway t f
   no-end l = ap checked (sym (follow-end line (under count (u .h) (u .s)) t at l) ∙ u .goes)
 
   module _ (l : at < length t) where
-    onward : (f : Frame) (place : ℕ) → frame (first (drop at t)) ≡ f → Real f → place ≡ at + (2 * length (frameBytes f) + 1)
+    onward : (f : Frame) (place : ℕ) → frame (first (drop at t)) ≡ f → Real f → place ≡ after at f
         → follow (line + 1) (next line (under count (u .h) (u .s)) f) (lines (drop place t)) ≡ afterHeader count (drop from t)
     onward f place e r z = rw (add-one line, z) (sym (follow-frame t at l line (under count (u .h) (u .s)) f e r) ∙ u .goes)
 
@@ -73,7 +73,7 @@ module _ (t : List ℕ) (from count hards softs line at : ℕ) (u : Underway t f
           hard-small = omega (arith, u .hard-small, f .2, f .3);
           soft-small = omega (arith, u .soft-small, f .3);
           line-small = omega (arith, u .line-small, f .3);
-          goes = onward (hard (f .0)) place (f .1) tt (omega (arith, f .3));
+          goes = onward (hard (f .0)) place (f .1) tt (f .3);
         }
 
     pub after-soft : (k place : ℕ) → Soft k place ≡ foundAt t at → Underway t from count hards (softs + (k + 1)) (line + 1) place
@@ -87,21 +87,21 @@ module _ (t : List ℕ) (from count hards softs line at : ℕ) (u : Underway t f
           hard-small = omega (arith, u .hard-small, f .3);
           soft-small = omega (arith, u .soft-small, f .2, f .3);
           line-small = omega (arith, u .line-small, f .3);
-          goes = onward (soft (f .0)) place (f .1) tt (omega (arith, f .3));
+          goes = onward (soft (f .0)) place (f .1) tt (f .3);
         }
 
     -- FF, and nothing after it
     pub at-end : (place : ℕ) → End place ≡ foundAt t at → length t ≤ place → Good count hards softs ≡ checked (afterHeader count (drop from t))
     at-end place e past =
         let f = found-tells t at (End place) e in
-        let goes = onward end place (f .0) tt (omega (arith, f .1)) in
+        let goes = onward end place (f .0) tt (f .1) in
         rw (← goes, follow-end (line + 1) (over count (u .h) (u .s)) t place past, u .hard-is, u .soft-is)
 
     -- FF, and a line after it
     pub after-end : (place : ℕ) → End place ≡ foundAt t at → place < length t → Bad (line + 1) ≡ checked (afterHeader count (drop from t))
     after-end place e more =
         let f = found-tells t at (End place) e in
-        let goes = onward end place (f .0) tt (omega (arith, f .1)) in
+        let goes = onward end place (f .0) tt (f .1) in
         rw (← goes, follow-bad t place more (line + 1) (over count (u .h) (u .s)) (frame (first (drop place t))) refl refl)
 
     -- a second header
@@ -127,5 +127,4 @@ unfolding judge
 a-header [] count place e = absurd (subst Real (sym (found-tells [] 0 (Header count place) e .0)) tt)
 a-header (c ∷ t) count place e =
     let f = found-tells (c ∷ t) 0 (Header count place) e in
-    let z : place ≡ 0 + (2 * 2 + 1) = omega (arith, f .1) in
-    rw z (sym (follow-frame (c ∷ t) 0 (omega arith) 1 fresh (header count) (f .0) tt))
+    rw (f .1) (sym (follow-frame (c ∷ t) 0 (omega arith) 1 fresh (header count) (f .0) tt))

@@ -1,7 +1,7 @@
 -- The lines of a buffer's clauses: clause by clause, how long they are, and how they are stored.
 use mathlib.Core.Path.{_≡_, refl, sym, ap, _∙_}
 use mathlib.Core.Logic.{_≢_}
-use mathlib.Core.Bool.{Bool, true, false, true≢false}
+use mathlib.Core.Bool.{true, true≢false}
 use mathlib.Core.List.{List, [], _∷_, _++_, append-assoc}
 use Prim.Native.Nat.{ℕ, zero, suc, _+_, _*_, _≤_, _<_}
 use native.Mathlib.Nat.{zero-add}
@@ -14,8 +14,8 @@ use Rattle.setups.specs.Clauses.{push, clauses}
 use Rattle.setups.specs.Refusals.{ended}
 use Rattle.setups.proofs.CheckLaws.{settings-length, settings-end, settings-literal}
 use Rattle.frames.specs.Digits.{digits}
-use Rattle.frames.specs.Frames.{lineFeed, headerKind, hardKind, softKind, endKind}
-use Rattle.frames.specs.Writing.{line, clauseLines, written, literalCount, textLength, firstClause}
+use Rattle.frames.specs.Frames.{lineFeed, line, headerKind, hardKind, softKind, endKind}
+use Rattle.frames.specs.Writing.{clauseLines, written, literalCount, textLength, firstClause}
 use Rattle.frames.proofs.Stores.{sets-append}
 
 -- ---- how long they are

@@ -1,8 +1,8 @@
 -- The filling pass: bytes stored one after the other, clause by clause.
-use mathlib.Core.Path.{_≡_, refl, sym, ap, _∙_, subst}
+use mathlib.Core.Path.{_≡_, refl, sym, ap, _∙_}
 use mathlib.Core.Logic.{by-cases}
 use mathlib.Core.Bool.{Bool, true, false, cond}
-use mathlib.Core.Option.{Option, none, some}
+use mathlib.Core.Option.{none, some}
 use mathlib.Core.List.{List, [], _∷_, _++_}
 use Prim.Native.Nat.{ℕ, suc, _+_, _-_, _*_, _≤_, _<_}
 use native.Mathlib.Nat.{zero-add}
@@ -13,10 +13,10 @@ use lib.Dec.{eqb}
 use lib.ListN.{length, getD, drop, set, length-append, length-drop}
 use lib.Seq.{sets, length-sets}
 use Rattle.frames.specs.Digits.{byteOf}
-use Rattle.frames.specs.declared.frames.Found.the-variants.{Header, Hard, Soft, End, NoFrame}
-use Rattle.frames.specs.Frames.{lineFeed, lines, hardKind, softKind, Frame, header, hard, soft, end, noFrame, lineBytes, frame, frameBytes}
-use Rattle.frames.specs.Texts.{Sofar, fresh, under, over, broken, ending, next, Text, good, bad, follow, judge, hardOf, softOf, Held}
-use Rattle.frames.specs.Found.{pairs, bytesFrom, foundAt}
+use Rattle.frames.specs.declared.frames.Found.the-variants.{Hard, Soft, End}
+use Rattle.frames.specs.Frames.{lineFeed, lines, hardKind, softKind, Frame, header, hard, soft, end, noFrame, frame, frameBytes}
+use Rattle.frames.specs.Texts.{Sofar, fresh, under, over, broken, ending, next, good, bad, follow, judge, hardOf, softOf, Held}
+use Rattle.frames.specs.Found.{pairs, bytesFrom, after, foundAt}
 use Rattle.frames.proofs.Stores.{sets-append}
 use Rattle.frames.proofs.Lines.{first, first-bytes, bytes-first, length-bytes, pairs-fit}
 use Rattle.frames.proofs.Following.{Real, real-bytes, follow-end, follow-frame, follow-bad, broken-stays}
@@ -33,7 +33,6 @@ copy-more t buffer at to n b h e = rw (bytes-first t at n h, ← e, add-one to)
 pub copy-last : (t buffer : List ℕ) (at to n : ℕ) → n ≡ 0 → set buffer to 0 ≡ sets buffer to (ending (bytesFrom n (drop at t)))
 copy-last t buffer at to n z = rw z
 
--- a frame's literals stand after its kind, and lie within the text
 got : (q : Bool) (xs ys : List ℕ) → cond q (some xs) none ≡ some ys → xs ≡ ys
 got true xs ys e = cc
 got false xs ys e = absurd (let z : _≡_ {A = ℕ} 0 1 = cc in omega arith)
@@ -41,6 +40,7 @@ got false xs ys e = absurd (let z : _≡_ {A = ℕ} 0 1 = cc in omega arith)
 same-tail : (x y : ℕ) (xs ys : List ℕ) → x ∷ xs ≡ y ∷ ys → xs ≡ ys
 same-tail x y xs ys e = cc
 
+-- a frame's literals stand after its kind, and lie within the text
 pub record Literals (t : List ℕ) (at : ℕ) (ls : List ℕ) : Type 0 where
   pub are : ls ≡ bytesFrom (length ls) (drop (at + 2) t)
   pub within : at + 2 + 2 * length ls ≤ length t
@@ -143,7 +143,7 @@ module _ (t hards₀ softs₀ hards softs : List ℕ) (at hardsAt softsAt : ℕ)
       (λ n. absurd (no-good _ _ _ _ (sym (follow-end (u .line) sofar t at (omega arith)) ∙ u .goes ∙ u .held .says)))
 
   -- with the frame passed that stands here
-  onward : (f : Frame) (place : ℕ) → frame (first (drop at t)) ≡ f → Real f → place ≡ at + (2 * length (frameBytes f) + 1) → follow (suc (u .line)) (next (u .line) sofar f) (lines (drop place t)) ≡ judge t
+  onward : (f : Frame) (place : ℕ) → frame (first (drop at t)) ≡ f → Real f → place ≡ after at f → follow (suc (u .line)) (next (u .line) sofar f) (lines (drop place t)) ≡ judge t
   unfolding sofar
   onward f place e r z = rw z (sym (follow-frame t at in-text (u .line) sofar f e r) ∙ u .goes)
 
@@ -162,7 +162,7 @@ module _ (t hards₀ softs₀ hards softs : List ℕ) (at hardsAt softsAt : ℕ)
 
     hard-onward : follow (suc (u .line)) (under (u .count) (u .h ++ ending (hard-found .0)) (u .s)) (lines (drop place t)) ≡ judge t
     unfolding hard-found sofar
-    hard-onward = onward (hard (hard-found .0)) place (hard-found .1) tt (omega (arith, hard-found .3))
+    hard-onward = onward (hard (hard-found .0)) place (hard-found .1) tt (hard-found .3)
 
     pub hard-fits : (at + 2 + 2 * k ≤ length t) × (hardsAt + k < length hards)
     unfolding hard-found
@@ -195,7 +195,7 @@ module _ (t hards₀ softs₀ hards softs : List ℕ) (at hardsAt softsAt : ℕ)
 
     soft-onward : follow (suc (u .line)) (under (u .count) (u .h) (u .s ++ ending (soft-found .0))) (lines (drop place t)) ≡ judge t
     unfolding soft-found sofar
-    soft-onward = onward (soft (soft-found .0)) place (soft-found .1) tt (omega (arith, soft-found .3))
+    soft-onward = onward (soft (soft-found .0)) place (soft-found .1) tt (soft-found .3)
 
     pub soft-fits : (at + 2 + 2 * k ≤ length t) × (softsAt + k < length softs)
     unfolding soft-found
@@ -222,7 +222,7 @@ module _ (t hards₀ softs₀ hards softs : List ℕ) (at hardsAt softsAt : ℕ)
   unfolding sofar
   all-filled place e =
       let f = found-tells t at (End place) e in
-      let r = over-stays (lines (drop place t)) _ _ _ _ _ _ _ (onward end place (f .0) tt (omega (arith, f .1)) ∙ u .held .says) in
+      let r = over-stays (lines (drop place t)) _ _ _ _ _ _ _ (onward end place (f .0) tt (f .1) ∙ u .held .says) in
       (rw (u .held .says) (u .hard .has ∙ rw (r .0)), rw (u .held .says) (u .soft .has ∙ rw (r .1)))
 
   -- no other frame stands in a good text
@@ -232,6 +232,11 @@ module _ (t hards₀ softs₀ hards softs : List ℕ) (at hardsAt softsAt : ℕ)
 -- ---- where it begins: after the header, which a good text has
 
 module _ (c : ℕ) (t hards softs : List ℕ) (held : Held (c ∷ t) hards softs) where
+  -- another first line is bad
+  no-first : (f : Frame) → frame (first (c ∷ t)) ≡ f → next 1 fresh f ≡ broken 1 → ⊥
+  unfolding judge
+  no-first f e b = no-good _ _ _ _ (sym (follow-bad (c ∷ t) 0 (omega arith) 1 fresh f e b) ∙ held .says)
+
   begins-by : (f : Frame) → frame (first (c ∷ t)) ≡ f → Filling (c ∷ t) hards softs hards softs 5 0 0
   unfolding judge
   begins-by (header count) e = record {
@@ -244,10 +249,10 @@ module _ (c : ℕ) (t hards softs : List ℕ) (held : Held (c ∷ t) hards softs
     soft = stored-none softs;
     goes = sym (follow-frame (c ∷ t) 0 (omega arith) 1 fresh (header count) e tt);
   }
-  begins-by (hard ls) e = absurd (no-good _ _ _ _ (sym (follow-bad (c ∷ t) 0 (omega arith) 1 fresh (hard ls) e refl) ∙ held .says))
-  begins-by (soft ls) e = absurd (no-good _ _ _ _ (sym (follow-bad (c ∷ t) 0 (omega arith) 1 fresh (soft ls) e refl) ∙ held .says))
-  begins-by end e = absurd (no-good _ _ _ _ (sym (follow-bad (c ∷ t) 0 (omega arith) 1 fresh end e refl) ∙ held .says))
-  begins-by noFrame e = absurd (no-good _ _ _ _ (sym (follow-bad (c ∷ t) 0 (omega arith) 1 fresh noFrame e refl) ∙ held .says))
+  begins-by (hard ls) e = absurd (no-first (hard ls) e refl)
+  begins-by (soft ls) e = absurd (no-first (soft ls) e refl)
+  begins-by end e = absurd (no-first end e refl)
+  begins-by noFrame e = absurd (no-first noFrame e refl)
 
 pub begins : (t hards softs : List ℕ) → Held t hards softs → Filling t hards softs hards softs 5 0 0
 unfolding judge

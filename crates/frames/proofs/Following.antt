@@ -1,21 +1,21 @@
 -- The fold over a text's lines, line by line from a place of the text.
-use mathlib.Core.Path.{_≡_, refl, sym, ap, _∙_, subst}
+use mathlib.Core.Path.{_≡_, refl, ap, _∙_, subst}
 use mathlib.Core.Logic.{_⊎_, inl, inr, ⊎-elim}
-use mathlib.Core.Bool.{Bool, true, false, cond, _&&_}
-use mathlib.Core.List.{List, [], _∷_, _++_}
+use mathlib.Core.Bool.{Bool, cond, _&&_}
+use mathlib.Core.List.{List, [], _∷_}
 use mathlib.Core.Option.{Option, none, some, Option·map}
-use Prim.Native.Nat.{ℕ, zero, suc, _+_, _-_, _*_, _≤_, _<_}
-use native.Mathlib.Numerals.{add-one}
+use Prim.Native.Nat.{ℕ, suc, _+_, _*_, _≤_, _<_}
 use native.Mathlib.Omega.{arith}
 use borrow.Author.Tests.{eqb-true}
 use lib.Dec.{eqb, ltb, leb}
-use lib.ListN.{length, getD, drop, length-drop, drop-of-length-le, length-append}
+use lib.ListN.{length, drop, length-drop, drop-of-length-le}
 use lib.Seq.{drop-drop}
 use Rattle.sets.specs.Tests.{all}
 use Rattle.sets.proofs.Deciding.{bool-case, cond-case}
 use Rattle.frames.specs.Digits.{isDigit, byteOf}
 use Rattle.frames.specs.Frames.{lineFeed, ahead, lines, lineBytes, headerKind, hardKind, softKind, endKind, frameMost, Frame, header, hard, soft, end, noFrame, headerOf, clauseOf, endOf, framed, frame, frameOf, frameBytes}
-use Rattle.frames.specs.Texts.{Sofar, fresh, under, over, broken, ending, next, Text, good, bad, close, follow}
+use Rattle.frames.specs.Texts.{Sofar, broken, next, bad, close, follow}
+use Rattle.frames.specs.Found.{after}
 use Rattle.frames.proofs.Lines.{first, first-feed, first-more}
 
 -- ---- a frame tells its bytes, and so how long its line is
@@ -113,7 +113,7 @@ module _ (t : List ℕ) (at : ℕ) (h : at < length t) (n : ℕ) (sofar : Sofar)
       rw (lines-cons (drop at t) l, drop-drop)
 
   -- a frame takes a pair a byte, and LF
-  pub follow-frame : (f : Frame) → frame (first (drop at t)) ≡ f → Real f → follow n sofar (lines (drop at t)) ≡ follow (suc n) (next n sofar f) (lines (drop (at + (2 * length (frameBytes f) + 1)) t))
+  pub follow-frame : (f : Frame) → frame (first (drop at t)) ≡ f → Real f → follow n sofar (lines (drop at t)) ≡ follow (suc n) (next n sofar f) (lines (drop (after at f) t))
   follow-frame f e r =
       let line = first (drop at t) in
       let l : length line ≡ 2 * length (frameBytes f) + 1 = subst (Takes (length line)) (real-bytes line f e r) (line-takes line) in

@@ -1,16 +1,21 @@
--- Digits: which bytes are digits, what a digit's value can be, and that each value below 16 comes back from its digit.
-use mathlib.Core.Path.{_≡_, refl, sym, ap, _∙_}
-use mathlib.Core.Bool.{Bool, true, false, cond, _&&_, _||_, and-false}
-use mathlib.Core.List.{List, [], _∷_, _++_}
-use Prim.Native.Nat.{ℕ, zero, suc, _+_, _-_, _*_, _/_, _%_, _≤_, _<_}
+-- Digits: which bytes are digits, what a digit's value can be, and that each value comes back from its digit.
+use mathlib.Core.Path.{_≡_, sym, _∙_}
+use mathlib.Core.Logic.{by-cases}
+use mathlib.Core.Bool.{true, false, true≢false, _&&_, and-false}
+use mathlib.Core.List.{List, [], _∷_}
+use Prim.Native.Nat.{ℕ, _+_, _/_, _%_, _≤_, _<_}
 use native.Mathlib.Nat.{div-one}
+use native.Mathlib.Decide.{decLt}
 use native.Mathlib.Numerals.{add-two, add-four, add-six}
 use native.Mathlib.Omega.{arith}
-use borrow.Author.Tests.{le-leb, lt-leb, leb-true}
-use lib.Dec.{T, leb, leb→le}
+use borrow.Author.Tests.{lt-ltb, le-ltb, le-leb, lt-leb, ne-eqb}
+use lib.Dec.{eqb, ltb, leb, leb→le}
 use lib.Seq.{sets}
-use Rattle.sets.proofs.Deciding.{cond-case, and-left, and-right, T-true}
+use Rattle.sets.proofs.Deciding.{cond-case, and-right, T-true}
 use Rattle.frames.specs.Digits.{between, numeral, letter, isDigit, digitValue, digitOf, byteOf, digits, bytesOf}
+use Rattle.frames.specs.Frames.{lineFeed}
+
+-- ---- which bytes are digits
 
 pub inside : (low high c : ℕ) → low ≤ c → c ≤ high → between low high c ≡ true
 unfolding between
@@ -37,6 +42,48 @@ value-below c =
 -- a number that is a digit's value
 pub a-value-below : (v c : ℕ) → v ≡ digitValue c → v < 16
 a-value-below v c e = omega (arith, value-below c)
+
+-- ---- a digit's value comes back
+
+-- the digits lie between their ends
+digit-low : (v : ℕ) → v < 10 → digitOf v ≡ v + 48
+unfolding digitOf
+digit-low v l = rw (lt-ltb v 10 l)
+
+digit-high : (v : ℕ) → 10 ≤ v → digitOf v ≡ v + 55
+unfolding digitOf
+digit-high v l = rw (le-ltb v 10 l)
+
+-- a digit, with its value
+pub record Digit (v c : ℕ) : Type 0 where
+  pub is : isDigit c ≡ true
+  pub value : digitValue c ≡ v
+
+pub digit-back : (v : ℕ) → v < 16 → Digit v (digitOf v)
+digit-back v l = by-cases (decLt v 10) low high
+  where
+    low : v < 10 → Digit v (digitOf v)
+    low h = rw (digit-low v h) (record { is = rw (inside 48 57 (v + 48) (omega arith) (omega arith)); value = rw (inside 48 57 (v + 48) (omega arith) (omega arith)) (omega arith) })
+
+    high : ¬ (v < 10) → Digit v (digitOf v)
+    high h = rw (digit-high v (omega arith)) (record {
+      is = rw (above 48 57 (v + 55) (omega arith), inside 65 70 (v + 55) (omega arith) (omega arith));
+      value = rw (above 48 57 (v + 55) (omega arith), inside 65 70 (v + 55) (omega arith) (omega arith)) (omega arith);
+    })
+
+pub byte-back : (b : ℕ) → b < 256 → byteOf (digitOf (b / 16)) (digitOf (b % 16)) ≡ b
+byte-back b l = rw (digit-back (b / 16) (omega arith) .value, digit-back (b % 16) (omega arith) .value) (omega arith)
+
+-- a digit is no LF
+pub digit-no-feed : (c : ℕ) → isDigit c ≡ true → eqb c lineFeed ≡ false
+digit-no-feed c e = ne-eqb c 10 (λ q. true≢false (sym e ∙ rw (q, below 48 57 10 (omega arith), below 65 70 10 (omega arith))))
+
+-- nor is what stands for a value, whatever the value
+pub digit-of-no-feed : (v : ℕ) → eqb (digitOf v) lineFeed ≡ false
+unfolding digitOf
+digit-of-no-feed v = ne-eqb (digitOf v) 10 (cond-case (λ (c : ℕ). ¬ (c ≡ 10)) (ltb v 10) (λ _ e. let b : ⊥ = omega arith in b) (λ _ e. let b : ⊥ = omega arith in b))
+
+-- ---- a number's bytes
 
 -- four bytes written one after the other are the digits of the number
 pub four-bytes : (n at : ℕ) (t t₁ t₂ t₃ t₄ : List ℕ)

@@ -1,26 +1,26 @@
 -- Lines: where the pairs of digits end that a text begins with, and which frame its first line is.
 use mathlib.Core.Path.{_≡_, refl, sym, ap, _∙_}
 use mathlib.Core.Logic.{by-cases}
-use mathlib.Core.Bool.{Bool, true, false, cond, true≢false, false≢true, _&&_}
-use mathlib.Core.List.{List, [], _∷_, _++_}
-use mathlib.Core.Option.{Option, none, some, Option·map}
+use mathlib.Core.Bool.{Bool, true, false, cond, false≢true, _&&_}
+use mathlib.Core.List.{List, [], _∷_}
+use mathlib.Core.Option.{none, some, Option·map}
 use Prim.Native.Nat.{ℕ, zero, suc, _+_, _-_, _*_, _/_, _≤_, _<_}
 use native.Mathlib.Nat.{add-zero}
 use native.Mathlib.Decide.{decLt}
 use native.Mathlib.Numerals.{add-one, add-two}
 use native.Mathlib.Omega.{arith}
-use borrow.Author.Tests.{lt-ltb, le-ltb, le-leb, lt-leb, eq-eqb, ne-eqb, eqb-true, ltb-true, ltb-false}
-use lib.Dec.{T, eqb, ltb, leb}
+use borrow.Author.Tests.{lt-ltb, le-leb, lt-leb, eq-eqb, ne-eqb}
+use lib.Dec.{eqb, ltb}
 use lib.ListN.{length, getD, drop, length-drop, List·getD-eq-default}
 use lib.Seq.{drop-cons, drop-drop, getD-drop}
 use Rattle.sets.specs.Tests.{all}
 use Rattle.sets.proofs.Deciding.{bool-case, cond-case}
 use Rattle.frames.specs.declared.frames.Found.{Found}
 use Rattle.frames.specs.declared.frames.Found.the-variants.{Header, End, NoFrame}
-use Rattle.frames.specs.Digits.{between, isDigit, byteOf}
-use Rattle.frames.specs.Frames.{lineFeed, ahead, lines, lineBytes, headerKind, hardKind, softKind, endKind, frameMost, Frame, noFrame, headerOf, clauseOf, endOf, framed, frame, frameOf}
+use Rattle.frames.specs.Digits.{isDigit, byteOf}
+use Rattle.frames.specs.Frames.{lineFeed, ahead, lines, lineBytes, headerKind, hardKind, softKind, endKind, frameMost, Frame, noFrame, headerOf, clauseOf, endOf, framed, frameOf}
 use Rattle.frames.specs.Found.{pairs, bytesFrom, found, foundAt}
-use Rattle.frames.proofs.Hexadecimal.{below}
+use Rattle.frames.proofs.Hexadecimal.{digit-no-feed}
 
 -- ---- pairs of digits
 
@@ -111,10 +111,6 @@ first-more c t e = rw e (first-ahead c (lines t))
 first-one : (c : ℕ) → first (c ∷ []) ≡ c ∷ []
 first-one c = bool-case (λ (q : Bool). getD (cond q ((c ∷ []) ∷ []) ((c ∷ []) ∷ [])) 0 [] ≡ c ∷ []) (eqb c lineFeed) (λ e. refl) (λ e. refl)
 
--- a digit is no LF
-digit-no-feed : (c : ℕ) → isDigit c ≡ true → eqb c lineFeed ≡ false
-digit-no-feed c e = ne-eqb c 10 (λ q. true≢false (sym e ∙ rw (q, below 48 57 10 (omega arith), below 65 70 10 (omega arith))))
-
 and-true-left : (a b : Bool) → (a && b) ≡ true → a ≡ true
 and-true-left true b e = refl
 and-true-left false b e = e
@@ -189,7 +185,7 @@ module _ (t : List ℕ) (at end : ℕ) (e : end ≡ at + 2 * pairs (drop at t)) 
     pub frame-empty : n ≡ 0 → NoFrame ≡ foundAt t at
     frame-empty z = sym (frame-here (omega arith) ∙ rw z)
 
--- ---- frames by their kind: the first byte is k, and n more follow from `rest`
+-- ---- frames by their kind
 
 headers : (n : ℕ) (t : List ℕ) → ¬ (n ≡ 1) → headerOf (bytesFrom n t) ≡ noFrame
 headers zero t h = refl
@@ -200,7 +196,7 @@ ends : (n : ℕ) (t : List ℕ) → ¬ (n ≡ 0) → endOf (bytesFrom n t) ≡ n
 ends zero t h = absurd (h refl)
 ends (suc n) t h = refl
 
--- of n + 1 bytes from `at` on the first is k
+-- of n bytes from `at` on the first is k
 module _ (t : List ℕ) (at n k : ℕ) (more : 0 < n) (e : k ≡ byteOf (getD t at 0) (getD t (at + 1) 0)) where
   whole : bytesFrom n (drop at t) ≡ k ∷ bytesFrom (n - 1) (drop (at + 2) t)
   whole = bytes-first t at n more ∙ rw (← e)
@@ -215,13 +211,13 @@ module _ (t : List ℕ) (at n k : ℕ) (more : 0 < n) (e : k ≡ byteOf (getD t 
 
   -- a clause, hard or soft: its kind, the frame that its literals make, and what is told of that
   module _ (kind : ℕ) (make : List ℕ → Frame) (tell : ℕ → ℕ → Found) (q : k ≡ kind) (makes : (ls : List ℕ) → frameOf (kind ∷ ls) ≡ clauseOf make ls)
-      (tells : (ls : List ℕ) → found at (make ls) ≡ tell (length ls) (at + (2 * length ls + 3))) where
+      (tells : (ls : List ℕ) → found at (make ls) ≡ tell (length ls) (at + (2 * suc (length ls) + 1))) where
     clause : frameOf (bytesFrom n (drop at t)) ≡ clauseOf make (bytesFrom (n - 1) (drop (at + 2) t))
     clause = rw (whole, q) (makes (bytesFrom (n - 1) (drop (at + 2) t)))
 
     pub a-clause : true ≡ all (ltb 0) (bytesFrom (n - 1) (drop (at + 2) t)) → tell (n - 1) (at + 2 * n + 1) ≡ found at (frameOf (bytesFrom n (drop at t)))
     a-clause a =
-        let z : at + 2 * n + 1 ≡ at + (2 * (n - 1) + 3) = omega arith in
+        let z : at + 2 * n + 1 ≡ at + (2 * suc (n - 1) + 1) = omega arith in
         rw (clause, ← a, tells (bytesFrom (n - 1) (drop (at + 2) t)), length-bytes (n - 1) (drop (at + 2) t), z)
 
     pub no-clause : false ≡ all (ltb 0) (bytesFrom (n - 1) (drop (at + 2) t)) → NoFrame ≡ found at (frameOf (bytesFrom n (drop at t)))

@@ -1,76 +1,36 @@
 -- Reading what was written gives the same setup back.
-use mathlib.Core.Path.{_≡_, refl, sym, ap, ap₂, _∙_}
-use mathlib.Core.Logic.{by-cases}
-use mathlib.Core.Bool.{Bool, true, false, cond, _&&_}
+use mathlib.Core.Path.{_≡_, refl, sym, ap, _∙_}
+use mathlib.Core.Bool.{true, false}
 use mathlib.Core.List.{List, [], _∷_, _++_, append-assoc, append-nil}
-use mathlib.Core.Option.{Option, some, Option·map}
-use Prim.Native.Nat.{ℕ, zero, suc, _+_, _*_, _/_, _%_, _≤_, _<_}
+use mathlib.Core.Option.{some}
+use Prim.Native.Nat.{ℕ, zero, suc, _+_, _/_, _%_, _≤_, _<_}
 use native.Mathlib.Nat.{add-zero}
-use native.Mathlib.Decide.{decLt}
 use native.Mathlib.Omega.{arith}
-use borrow.Author.Tests.{lt-ltb, le-ltb, ltb-false, le-leb, ne-eqb}
-use lib.Dec.{eqb, ltb, leb}
-use lib.ListN.{length, getD, take, drop}
+use borrow.Author.Tests.{lt-ltb, ltb-false, le-leb}
+use lib.Dec.{ltb, leb}
+use lib.ListN.{length, take, drop}
 use lib.Seq.{take-at}
 use Rattle.sets.specs.Tests.{all}
-use Rattle.sets.proofs.Deciding.{cond-case}
 use Rattle.setups.specs.Limits.{literalsMost}
 use Rattle.setups.specs.Clauses.{push, clauses}
 use Rattle.setups.specs.Refusals.{finished, ended, someLong}
 use Rattle.setups.proofs.CheckLaws.{settings-length}
-use Rattle.frames.specs.Digits.{between, isDigit, digitValue, digitOf, byteOf, digits}
-use Rattle.frames.specs.Frames.{lineFeed, ahead, lines, lineBytes, headerKind, hardKind, softKind, endKind, frameMost, Frame, header, hard, soft, end, frame}
-use Rattle.frames.specs.Texts.{Sofar, fresh, under, over, ending, next, good, follow, judge}
-use Rattle.frames.specs.Writing.{Bytes, line, clauseLines, written, textLength, writtenMost}
+use Rattle.frames.specs.Frames.{line, lines, lineBytes, headerKind, hardKind, softKind, endKind, frameMost, Frame, header, hard, soft, end, frame}
+use Rattle.frames.specs.Texts.{Sofar, fresh, under, ending, next, good, follow, judge}
+use Rattle.frames.specs.Writing.{Bytes, clauseLines, written, textLength, writtenMost}
 use Rattle.frames.specs.Read.{textMost, readResult}
 use Rattle.frames.specs.Write.{WriteResult, writeResult}
-use Rattle.frames.proofs.Hexadecimal.{inside, above}
+use Rattle.frames.proofs.Hexadecimal.{digit-back, byte-back, digit-of-no-feed}
 use Rattle.frames.proofs.ClauseLines.{literal-goes-on, first-of, literals-and-ends, measured}
 use Rattle.frames.proofs.Answers.{fillsWith, accepts}
 use Rattle.frames.proofs.Refusing.{both, Fine, fine, not-refused, finishes}
-
--- ---- a digit's value comes back
-
--- the digits lie between their ends
-digit-low : (v : ℕ) → v < 10 → digitOf v ≡ v + 48
-unfolding digitOf
-digit-low v l = rw (lt-ltb v 10 l)
-
-digit-high : (v : ℕ) → 10 ≤ v → digitOf v ≡ v + 55
-unfolding digitOf
-digit-high v l = rw (le-ltb v 10 l)
-
--- a digit, with its value
-record Digit (v c : ℕ) : Type 0 where
-  is : isDigit c ≡ true
-  value : digitValue c ≡ v
-
-digit-back : (v : ℕ) → v < 16 → Digit v (digitOf v)
-digit-back v l = by-cases (decLt v 10) low high
-  where
-    low : v < 10 → Digit v (digitOf v)
-    low h = rw (digit-low v h) (record { is = rw (inside 48 57 (v + 48) (omega arith) (omega arith)); value = rw (inside 48 57 (v + 48) (omega arith) (omega arith)) (omega arith) })
-
-    high : ¬ (v < 10) → Digit v (digitOf v)
-    high h = rw (digit-high v (omega arith)) (record {
-      is = rw (above 48 57 (v + 55) (omega arith), inside 65 70 (v + 55) (omega arith) (omega arith));
-      value = rw (above 48 57 (v + 55) (omega arith), inside 65 70 (v + 55) (omega arith) (omega arith)) (omega arith);
-    })
-
-byte-back : (b : ℕ) → b < 256 → byteOf (digitOf (b / 16)) (digitOf (b % 16)) ≡ b
-byte-back b l = rw (digit-back (b / 16) (omega arith) .value, digit-back (b % 16) (omega arith) .value) (omega arith)
-
--- a digit is no LF, whatever its value
-digit-no-feed : (v : ℕ) → eqb (digitOf v) lineFeed ≡ false
-unfolding digitOf
-digit-no-feed v = ne-eqb (digitOf v) 10 (cond-case (λ (c : ℕ). ¬ (c ≡ 10)) (ltb v 10) (λ _ e. let b : ⊥ = omega arith in b) (λ _ e. let b : ⊥ = omega arith in b))
 
 -- ---- a line comes back
 
 -- a written line is the first line of what follows it too
 line-first : (bytes rest : List ℕ) → lines (line bytes ++ rest) ≡ line bytes ∷ lines rest
 line-first [] rest = refl
-line-first (b ∷ bytes) rest = rw (digit-no-feed (b / 16), digit-no-feed (b % 16), line-first bytes rest)
+line-first (b ∷ bytes) rest = rw (digit-of-no-feed (b / 16), digit-of-no-feed (b % 16), line-first bytes rest)
 
 -- its bytes are the bytes
 line-bytes : (bytes : List ℕ) → Bytes bytes → lineBytes (line bytes) ≡ some bytes

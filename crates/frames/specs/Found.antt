@@ -9,7 +9,7 @@ use Rattle.frames.specs.declared.frames.Found.the-variants.{Header, Hard
 use Rattle.frames.specs.declared.reading.Checked.{Checked}
 use Rattle.frames.specs.declared.reading.Checked.the-variants.{Good, Bad}
 use Rattle.frames.specs.Digits.{between, isDigit, byteOf}
-use Rattle.frames.specs.Frames.{lines, Frame, header, hard, soft, end, noFrame, frame}
+use Rattle.frames.specs.Frames.{lines, Frame, header, hard, soft, end, noFrame, frame, frameBytes}
 use Rattle.frames.specs.Texts.{Text, good, bad}
 
 -- how many pairs of digits the text begins with
@@ -28,12 +28,16 @@ example-pairs : (pairs (49 ∷ 70 ∷ 50 ∷ []) ≡ 1) × (bytesFrom 1 (49 ∷ 
 unfolding between
 example-pairs = (refl, refl)
 
+-- the place after a frame's line: two digits a byte, and LF
+abbrev pub after : ℕ → Frame → ℕ
+after at f = at + (2 * length (frameBytes f) + 1)
+
 -- a frame at a place of the text: the variable count, or how many literals there are, and the place after its line
 abbrev pub found : ℕ → Frame → Found
-found at (header count) = Header count (at + 5)
-found at (hard literals) = Hard (length literals) (at + (2 * length literals + 3))
-found at (soft literals) = Soft (length literals) (at + (2 * length literals + 3))
-found at end = End (at + 3)
+found at (header count) = Header count (after at (header count))
+found at (hard literals) = Hard (length literals) (after at (hard literals))
+found at (soft literals) = Soft (length literals) (after at (soft literals))
+found at end = End (after at end)
 found at noFrame = NoFrame
 
 -- the frame of the line that begins at `at`
@@ -43,4 +47,4 @@ foundAt text at = found at (frame (getD (lines (drop at text)) 0 []))
 -- what a text says, in numbers: the variable count and how many bytes each buffer has to hold, or the first bad line
 abbrev pub checked : Text → Checked
 checked (good count h s) = Good count (length h) (length s)
-checked (bad line) = Bad line
+checked (bad n) = Bad n

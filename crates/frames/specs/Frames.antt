@@ -1,13 +1,13 @@
 -- Lines and the frames that stand in them (document 01, "Lines of hexadecimal": "One frame a line").
 use mathlib.Core.Path.{_≡_, refl}
-use mathlib.Core.Bool.{Bool, true, false, cond, _&&_}
-use mathlib.Core.List.{List, [], _∷_}
+use mathlib.Core.Bool.{cond, _&&_}
+use mathlib.Core.List.{List, [], _∷_, _++_}
 use mathlib.Core.Option.{Option, none, some, Option·map}
 use Prim.Native.Nat.{ℕ}
 use lib.Dec.{eqb, ltb, leb}
 use lib.ListN.{length}
 use Rattle.sets.specs.Tests.{all}
-use Rattle.frames.specs.Digits.{between, isDigit, byteOf}
+use Rattle.frames.specs.Digits.{between, isDigit, digitOf, byteOf, digits}
 
 -- LF
 abbrev pub lineFeed : ℕ
@@ -18,17 +18,21 @@ lineFeed = 10
 -- a character put in front of the first line
 abbrev pub ahead : ℕ → List (List ℕ) → List (List ℕ)
 ahead c [] = (c ∷ []) ∷ []
-ahead c (line ∷ rest) = (c ∷ line) ∷ rest
+ahead c (first ∷ rest) = (c ∷ first) ∷ rest
 
 abbrev pub lines : List ℕ → List (List ℕ)
 lines [] = []
 lines (c ∷ text) = cond (eqb c lineFeed) ((c ∷ []) ∷ lines text) (ahead c (lines text))
 
+-- the line of some bytes
+abbrev pub line : List ℕ → List ℕ
+line bytes = digits bytes ++ lineFeed ∷ []
+
 -- the bytes of a line: pairs of digits and one LF
 abbrev pub lineBytes : List ℕ → Option (List ℕ)
 lineBytes [] = none
 lineBytes (c ∷ []) = cond (eqb c lineFeed) (some []) none
-lineBytes (c ∷ d ∷ line) = cond (isDigit c && isDigit d) (Option·map (λ (bytes : List ℕ). byteOf c d ∷ bytes) (lineBytes line)) none
+lineBytes (c ∷ d ∷ rest) = cond (isDigit c && isDigit d) (Option·map (λ (bytes : List ℕ). byteOf c d ∷ bytes) (lineBytes rest)) none
 
 -- ---- frames
 
@@ -84,7 +88,7 @@ framed (some bytes) = cond (leb (length bytes) frameMost) (frameOf bytes) noFram
 
 -- the frame of a line
 abbrev pub frame : List ℕ → Frame
-frame line = framed (lineBytes line)
+frame one = framed (lineBytes one)
 
 -- the bytes of a frame
 abbrev pub frameBytes : Frame → List ℕ
@@ -95,6 +99,6 @@ frameBytes end = endKind ∷ []
 frameBytes noFrame = []
 
 -- 2081 and LF is the hard clause (−1); without its LF, or with a literal 00, a line is no frame
-example-frame : (frame (50 ∷ 48 ∷ 56 ∷ 49 ∷ 10 ∷ []) ≡ hard (129 ∷ [])) × (frame (50 ∷ 48 ∷ 56 ∷ 49 ∷ []) ≡ noFrame) × (frame (50 ∷ 48 ∷ 48 ∷ 48 ∷ 10 ∷ []) ≡ noFrame)
-unfolding between
+example-frame : (frame (line (0x20 ∷ 0x81 ∷ [])) ≡ hard (129 ∷ [])) × (frame (digits (0x20 ∷ 0x81 ∷ [])) ≡ noFrame) × (frame (line (0x20 ∷ 0x00 ∷ [])) ≡ noFrame)
+unfolding between digitOf
 example-frame = (refl, refl, refl)

@@ -9,8 +9,8 @@ use Rattle.setups.specs.declared.Refusal.the-variants.{Size, Frame, Room}
 use Rattle.setups.specs.Refusals.{numberOf, finished, check}
 use Rattle.frames.specs.declared.reading.Reading.{Reading}
 use Rattle.frames.specs.declared.reading.Reading.the-variants.{Read, Refused}
-use Rattle.frames.specs.Digits.{between, digitOf, digits}
-use Rattle.frames.specs.Frames.{lineFeed}
+use Rattle.frames.specs.Digits.{between, digitOf}
+use Rattle.frames.specs.Frames.{line}
 use Rattle.frames.specs.Texts.{judge, isBad, countOf, hardOf, softOf}
 
 -- "text to read | 32,768 bytes"
@@ -39,7 +39,7 @@ readRefusal text hardRoom softRoom =
     (check (isBad (judge text)) Frame
     (check (ltb hardRoom (length (hardOf (judge text))) || ltb softRoom (length (softOf (judge text)))) Room 0))
 
--- what a text says, before what a buffer had beyond it
+-- the bytes, before what the buffer had beyond them: "places beyond what was written stay as they were"
 abbrev pub filledWith : List ℕ → List ℕ → List ℕ
 filledWith bytes buffer = bytes ++ drop (length bytes) buffer
 
@@ -64,7 +64,6 @@ Reads text hard soft answer hard′ soft′ = readingOf answer hard′ soft′ �
 
 -- the text 1001, 3001, FF fills no hard place and two soft ones, and needs both; without FF it is Frame
 example-read :
-    let line : List ℕ → List ℕ = λ bytes. digits bytes ++ lineFeed ∷ [] in
     let begun : List ℕ = line (0x10 ∷ 0x01 ∷ []) ++ line (0x30 ∷ 0x01 ∷ []) in
     (readResult (begun ++ line (0xFF ∷ [])) (7 ∷ []) (8 ∷ 9 ∷ 10 ∷ []) ≡ record { number = 0; count = 1; hardFilled = 0; softFilled = 2; hard = 7 ∷ []; soft = 1 ∷ 0 ∷ 10 ∷ [] })
     × (readResult (begun ++ line (0xFF ∷ [])) [] (8 ∷ []) ≡ record { number = 12; count = 0; hardFilled = 0; softFilled = 0; hard = []; soft = 8 ∷ [] })

@@ -4,8 +4,8 @@ use mathlib.Core.Bool.{Bool, true, false}
 use mathlib.Core.List.{List, [], _∷_, _++_}
 use Prim.Native.Nat.{ℕ, suc, _≤_}
 use lib.ListN.{length}
-use Rattle.frames.specs.Digits.{between, digitOf, digits}
-use Rattle.frames.specs.Frames.{lineFeed, lines, Frame, header, hard, soft, end, noFrame, frame}
+use Rattle.frames.specs.Digits.{between, digitOf}
+use Rattle.frames.specs.Frames.{line, lines, Frame, header, hard, soft, end, noFrame, frame}
 
 -- a text so far: no line yet; the header, with the clause bytes that followed; FF has come too; a line was bad, by its number from 1
 pub data Sofar : Type 0 where
@@ -48,7 +48,7 @@ close n (broken k) = bad k
 -- the lines from number n on
 abbrev pub follow : ℕ → Sofar → List (List ℕ) → Text
 follow n sofar [] = close n sofar
-follow n sofar (line ∷ rest) = follow (suc n) (next n sofar (frame line)) rest
+follow n sofar (one ∷ rest) = follow (suc n) (next n sofar (frame one)) rest
 
 -- the lines after a header with this variable count
 abbrev pub afterHeader : ℕ → List ℕ → Text
@@ -59,33 +59,32 @@ judge text = follow 1 fresh (lines text)
 
 abbrev pub isBad : Text → Bool
 isBad (good count h s) = false
-isBad (bad line) = true
+isBad (bad n) = true
 
 -- what a good text says: its variable count, and the bytes for each buffer
 abbrev pub countOf : Text → ℕ
 countOf (good count h s) = count
-countOf (bad line) = 0
+countOf (bad n) = 0
 
 abbrev pub hardOf : Text → List ℕ
 hardOf (good count h s) = h
-hardOf (bad line) = []
+hardOf (bad n) = []
 
 abbrev pub softOf : Text → List ℕ
 softOf (good count h s) = s
-softOf (bad line) = []
+softOf (bad n) = []
 
 -- a good text, and two buffers that hold what it says
-pub record Held (text hard′ soft′ : List ℕ) : Type 0 where
+pub record Held (text hardBuffer softBuffer : List ℕ) : Type 0 where
   pub count : ℕ
   pub h : List ℕ
   pub s : List ℕ
   pub says : judge text ≡ good count h s
-  pub hard-room : length h ≤ length hard′
-  pub soft-room : length s ≤ length soft′
+  pub hard-room : length h ≤ length hardBuffer
+  pub soft-room : length s ≤ length softBuffer
 
 -- document 01's input, whole; without FF, which would have been line 9; with a second header, line 2
 example-text :
-    let line : List ℕ → List ℕ = λ bytes. digits bytes ++ lineFeed ∷ [] in
     let first : List ℕ = line (0x10 ∷ 0x04 ∷ []) in
     let hards : List ℕ = line (0x20 ∷ 0x81 ∷ 0x82 ∷ []) ++ line (0x20 ∷ 0x82 ∷ 0x83 ∷ []) ++ line (0x20 ∷ 0x83 ∷ 0x84 ∷ []) in
     let softs : List ℕ = line (0x30 ∷ 0x01 ∷ []) ++ line (0x30 ∷ 0x02 ∷ []) ++ line (0x30 ∷ 0x03 ∷ []) ++ line (0x30 ∷ 0x04 ∷ []) in

@@ -1,10 +1,10 @@
 -- What Write gives back, for all arguments (document 01, "Lines of hexadecimal" and "What comes back when it can't").
 use mathlib.Core.Path.{_≡_, refl}
 use mathlib.Core.Bool.{cond, _||_, not}
-use mathlib.Core.List.{List, [], _∷_, _++_}
+use mathlib.Core.List.{List, [], _∷_}
 use Prim.Native.Nat.{ℕ}
 use lib.Dec.{ltb, eqb}
-use lib.ListN.{length, drop}
+use lib.ListN.{length}
 use Rattle.setups.specs.declared.Refusal.the-variants.{Vars, Size, Literal, Tail, Long, Softs, Room}
 use Rattle.setups.specs.Limits.{variablesMost, hardBytesMost, softBytesMost, settingsMost}
 use Rattle.setups.specs.Setups.{settings}
@@ -14,6 +14,7 @@ use Rattle.frames.specs.declared.writing.Judged.the-variants.{Taken, Unf
 use Rattle.frames.specs.declared.writing.Writing.{Writing}
 use Rattle.frames.specs.declared.writing.Writing.the-variants.{Written, Refused}
 use Rattle.frames.specs.Digits.{digitOf}
+use Rattle.frames.specs.Read.{filledWith}
 use Rattle.frames.specs.Writing.{written, textLength}
 
 -- the answer's number, how many places Written has filled (else 0), and the text buffer afterwards
@@ -51,7 +52,7 @@ writeResult n hard soft text =
     let refusal = writeRefusal n hard soft (length text) in
     let refused : WriteResult = record { number = refusal; filled = 0; text = text } in
     let wrote = written n hard soft in
-    let finishes : WriteResult = record { number = finished; filled = textLength hard soft; text = wrote ++ drop (length wrote) text } in
+    let finishes : WriteResult = record { number = finished; filled = textLength hard soft; text = filledWith wrote text } in
     cond (eqb refusal 0) finishes refused
 
 -- Write's promise: the answer, and the text buffer afterwards

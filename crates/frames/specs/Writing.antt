@@ -3,14 +3,10 @@
 use mathlib.Core.Path.{_≡_, refl}
 use mathlib.Core.List.{List, [], _∷_, _++_}
 use Prim.Native.Nat.{ℕ, zero, suc, _+_, _*_, _<_}
-use lib.ListN.{length, getD}
+use lib.ListN.{length, getD, drop}
 use Rattle.setups.specs.Clauses.{clauses}
-use Rattle.frames.specs.Digits.{digitOf, digits}
-use Rattle.frames.specs.Frames.{lineFeed, headerKind, hardKind, softKind, endKind}
-
--- the line of a frame's bytes
-abbrev pub line : List ℕ → List ℕ
-line bytes = digits bytes ++ lineFeed ∷ []
+use Rattle.frames.specs.Digits.{digitOf}
+use Rattle.frames.specs.Frames.{line, headerKind, hardKind, softKind, endKind}
 
 -- a line for each clause
 abbrev pub clauseLines : ℕ → List (List ℕ) → List ℕ
@@ -39,7 +35,7 @@ example-written : (written 1 [] (129 ∷ 0 ∷ []) ≡ 49 ∷ 48 ∷ 48 ∷ 49 �
 unfolding digitOf written textLength
 example-written = (refl, refl)
 
--- a buffer of bytes
+-- every place of the buffer holds a byte
 abbrev pub Bytes : List ℕ → Type 0
 Bytes buffer = (i : ℕ) → getD buffer i 0 < 256
 
@@ -48,3 +44,11 @@ abbrev pub firstClause : List ℕ → List ℕ
 firstClause [] = []
 firstClause (zero ∷ bytes) = []
 firstClause (suc b ∷ bytes) = suc b ∷ firstClause bytes
+
+-- the clause that begins at `from`
+abbrev pub clauseAt : List ℕ → ℕ → List ℕ
+clauseAt bytes from = firstClause (drop from bytes)
+
+-- of (1), (−2 3) the clause at place 2
+example-clause : clauseAt (1 ∷ 0 ∷ 130 ∷ 3 ∷ 0 ∷ []) 2 ≡ 130 ∷ 3 ∷ []
+example-clause = refl

@@ -1,9 +1,9 @@
 // Bytes as pairs of hexadecimal digits: read from a text, and written at a place of a lent one.
 ghost use mathlib.Core.Path.{_≡_};
-ghost use Prim.Native.Nat.{_+_, _<_, _≤_};
-ghost use lib.ListN.{length, getD, drop};
+ghost use Prim.Native.Nat.{_+_, _<_};
+ghost use lib.ListN.{length, getD};
 ghost use lib.Seq.{sets};
-ghost use mathlib.Core.List.{List, [], _∷_};
+ghost use mathlib.Core.List.{[], _∷_};
 ghost use Rattle.frames.specs.Digits.{isDigit, digitValue, digitOf, byteOf, digits, bytesOf};
 
 // The byte is one of 0-9 and A-F.

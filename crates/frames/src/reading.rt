@@ -19,8 +19,8 @@ const TEXT_MOST: usize = 32_768;
 pub enum Checked {
     Good {
         count: u32,
-        hard: usize,
-        soft: usize,
+        hard_filled: usize,
+        soft_filled: usize,
     },
     Bad {
         line: usize,
@@ -31,25 +31,29 @@ pub enum Checked {
 fn check_clauses(text: &[u8], from: usize, count: u32) -> Checked
     ensures { λ r. ⌜ r ≡ checked (afterHeader count (drop from (now (text .entry)))) ⌝ }
 {
-    let mut hard = 0;
-    let mut soft = 0;
+    let mut hard_filled = 0;
+    let mut soft_filled = 0;
     let mut line = 2;
     let mut at = from;
     while at < text.len() {
         match frame_at(text, at) {
             Found::Hard { literals, next } => {
-                hard += literals + 1;
+                hard_filled += literals + 1;
                 at = next;
             }
             Found::Soft { literals, next } => {
-                soft += literals + 1;
+                soft_filled += literals + 1;
                 at = next;
             }
             Found::End { next } => {
                 if next < text.len() {
                     return Checked::Bad { line: line + 1 };
                 }
-                return Checked::Good { count, hard, soft };
+                return Checked::Good {
+                    count,
+                    hard_filled,
+                    soft_filled,
+                };
             }
             Found::Header { count: _, next: _ } => {
                 return Checked::Bad { line };
@@ -110,6 +114,7 @@ fn fill(text: &[u8], hard: &mut [u8], soft: &mut [u8])
                 softs += literals + 1;
                 at = next;
             }
+            // FF: no other frame can stand here in a good text
             Found::Header { count: _, next: _ } | Found::End { next: _ } | Found::NoFrame => {
                 return;
             }
@@ -121,8 +126,8 @@ fn fill(text: &[u8], hard: &mut [u8], soft: &mut [u8])
 pub enum Reading {
     Read {
         count: u32,
-        hard: usize,
-        soft: usize,
+        hard_filled: usize,
+        soft_filled: usize,
     },
     Refused(Refusal),
 }
@@ -138,8 +143,8 @@ pub fn read(text: &[u8], hard: &mut [u8], soft: &mut [u8]) -> Reading
         Checked::Bad { line: _ } => Reading::Refused(Refusal::Frame),
         Checked::Good {
             count,
-            hard: hard_filled,
-            soft: soft_filled,
+            hard_filled,
+            soft_filled,
         } => {
             if hard.len() < hard_filled {
                 return Reading::Refused(Refusal::Room);
@@ -150,8 +155,8 @@ pub fn read(text: &[u8], hard: &mut [u8], soft: &mut [u8]) -> Reading
             fill(text, hard, soft);
             Reading::Read {
                 count,
-                hard: hard_filled,
-                soft: soft_filled,
+                hard_filled,
+                soft_filled,
             }
         }
     }

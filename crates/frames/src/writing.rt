@@ -17,12 +17,13 @@ ghost use mathlib.Core.Path.{_≡_};
 ghost use mathlib.Core.Bool.{true};
 ghost use mathlib.Core.List.{_∷_};
 ghost use Prim.Native.Nat.{ℕ, _+_, _*_, _<_, _≤_};
-ghost use lib.ListN.{length, drop};
+ghost use lib.ListN.{length};
 ghost use lib.Seq.{sets};
 ghost use Rattle.setups.specs.Limits.{variablesMost, hardBytesMost, softBytesMost};
 ghost use Rattle.setups.specs.Clauses.{clauses};
 ghost use Rattle.setups.specs.Refusals.{ended};
-ghost use Rattle.frames.specs.Writing.{line, clauseLines, written, textLength, firstClause};
+ghost use Rattle.frames.specs.Frames.{line};
+ghost use Rattle.frames.specs.Writing.{clauseLines, written, textLength, clauseAt};
 ghost use Rattle.frames.specs.Write.{setupRefusal, judgedOf, Writes};
 
 // The most variables and the most settings, in the types that they are compared in.
@@ -32,8 +33,8 @@ const SETTINGS_MOST: usize = sets::SETTINGS_MOST as usize;
 
 // Writes the line of the clause that begins at `from`, by its kind, and tells how many literals it has.
 fn put_clause(text: &mut [u8], at: usize, kind: u8, bytes: &[u8], from: usize) -> usize
-    requires { ⌜ (from + length (firstClause (drop from (now bytes))) < length (now bytes)) × (at + (2 * length (firstClause (drop from (now bytes))) + 3) ≤ length (now text)) ⌝ }
-    ensures { λ r. ⌜ (r ≡ length (firstClause (drop from (now (bytes .entry))))) × (now (text .exit) ≡ sets (now (text .entry)) at (line (kind ∷ firstClause (drop from (now (bytes .entry)))))) ⌝ }
+    requires { ⌜ (from + length (clauseAt (now bytes) from) < length (now bytes)) × (at + (2 * length (clauseAt (now bytes) from) + 3) ≤ length (now text)) ⌝ }
+    ensures { λ r. ⌜ (r ≡ length (clauseAt (now (bytes .entry)) from)) × (now (text .exit) ≡ sets (now (text .entry)) at (line (kind ∷ clauseAt (now (bytes .entry)) from))) ⌝ }
 {
     put_byte(text, at, kind);
     let mut to = at + 2;

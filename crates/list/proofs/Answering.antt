@@ -1,6 +1,6 @@
 -- The job's promise from what its parts say: a refusal before the search, or the list given out and the scratch zeroed.
-use mathlib.Core.Path.{_≡_, refl}
-use mathlib.Core.Bool.{Bool, true, false, _||_}
+use mathlib.Core.Path.{_≡_}
+use mathlib.Core.Bool.{_||_}
 use mathlib.Core.List.{List}
 use Prim.Native.Nat.{ℕ, _<_}
 use borrow.Author.Tests.{leb-false, ne-eqb}
@@ -9,28 +9,25 @@ use lib.ListN.{length}
 use Rattle.setups.specs.declared.Refusal.{Refusal}
 use Rattle.setups.specs.declared.Refusal.the-variants.{Vars, Size, Work}
 use Rattle.setups.specs.Limits.{variablesMost, hardBytesMost, softBytesMost, setsMost}
-use Rattle.setups.specs.Refusals.{numberOf, check}
+use Rattle.setups.specs.Refusals.{numberOf}
 use Rattle.setups.specs.Setups.{setup}
 use Rattle.setups.specs.Tests.{together}
 use Rattle.setups.specs.List.{without-list, zeroed, listRefusal, Lists}
 use Rattle.setups.proofs.Tests.{together-iff}
-use Rattle.setups.proofs.Refusals.{refused-number}
+use Rattle.setups.proofs.Refusals.{refused-number, check-passed}
 use Rattle.setups.proofs.Duality.{ways-out-exist}
 use Rattle.list.specs.declared.Listing.{Listing}
 use Rattle.list.specs.Answer.{answered, GivesOut}
-
--- where nothing is refused, no test says so
-passed : (test : Bool) (r : Refusal) (rest : ℕ) → check test r rest ≡ 0 → (test ≡ false) × (rest ≡ 0)
-passed true r rest e = absurd (refused-number r e)
-passed false r rest e = (refl, e)
 
 module _ (n : ℕ) (hard soft list scratch : List ℕ) where
   -- where nothing is refused, the scratch has one place more than the list
   pub room-taken : listRefusal n hard soft (length list) (length scratch) ≡ 0 → length list < length scratch
   room-taken e =
-      let vars = passed (ltb variablesMost n) Vars _ e in
-      let size = passed (ltb hardBytesMost (length hard) || (ltb softBytesMost (length soft) || ltb setsMost (length list))) Size _ (vars .1) in
-      leb-false (length scratch) (length list) (passed (leb (length scratch) (length list)) Work _ (size .1) .0)
+      let vars = check-passed (ltb variablesMost n) Vars _ 0 (refused-number Vars) e in
+      let large = ltb hardBytesMost (length hard) || (ltb softBytesMost (length soft) || ltb setsMost (length list)) in
+      let size = check-passed large Size _ 0 (refused-number Size) (vars .1) in
+      let work = check-passed (leb (length scratch) (length list)) Work _ 0 (refused-number Work) (size .1) in
+      leb-false (length scratch) (length list) (work .0)
 
   -- a refusal before the search writes nothing
   pub refused : (r : Refusal) → listRefusal n hard soft (length list) (length scratch) ≡ numberOf r → Lists n hard soft list scratch (without-list (numberOf r) list scratch)

@@ -3,8 +3,8 @@ use mathlib.Core.Path.{_≡_, _∙_, subst}
 use mathlib.Core.Logic.{by-cases}
 use mathlib.Core.Bool.{Bool, not}
 use mathlib.Core.List.{List, []}
-use Prim.Native.Nat.{ℕ, _+_, _-_, _/_, _^_, _≤_, _<_}
-use native.Mathlib.Nat.{lt-div-mul-add, mul-le-mul-right}
+use Prim.Native.Nat.{ℕ, _+_, _-_, _*_, _/_, _^_, _≤_, _<_}
+use native.Mathlib.Nat.{le-refl, lt-div-mul-add, mul-le-mul-right}
 use native.Mathlib.Decide.{ℕ-discrete, decLt}
 use native.Mathlib.Omega.{arith}
 use lib.Dec.{T-not, not-T}
@@ -13,7 +13,7 @@ use lib.Pow.{pow-pos}
 use Rattle.sets.specs.Sets.{digit, In, Within, Smallest}
 use Rattle.sets.specs.Lists.{Listed}
 use Rattle.sets.proofs.Deciding.{T-dec, any, dec-and, dec-not, stable}
-use Rattle.sets.proofs.Digits.{in-dec, in-below, digit-out, within-le, out-stays, out-within, out-differs, opposite-digit, those, those-lt, those-in}
+use Rattle.sets.proofs.Digits.{in-dec, in-below, digit-out, within-le, out-stays, out-within, out-differs, opposite-digit, those, those-lt, those-in, digit-up, high-digit, high-in}
 use Rattle.sets.proofs.Dual.{smallest-within}
 use Rattle.setups.specs.Clauses.{allTrue}
 use Rattle.setups.specs.Setups.{Setup, settings, count, SettingTrue, Without, WayOut}
@@ -21,7 +21,10 @@ use Rattle.setups.proofs.Tests.{without-dec}
 use Rattle.setups.proofs.Duality.{way-out-smallest}
 use Rattle.question.specs.Asking.{Meets, Breaks}
 use Rattle.list.specs.Walking.{Decided, Below, Between}
-use Rattle.list.proofs.Nodes.{high-digit, branch-digit, shifted-digit, shifted-in}
+
+-- the digits of a · 2^i from place i up are those of a
+shifted : (i a k : ℕ) → digit (a * 2 ^ i) (i + k) ≡ digit a k
+shifted i a k = high-digit i a (a * 2 ^ i) k (le-refl (a * 2 ^ i)) (omega (arith, pow-pos i))
 
 -- of two ways out neither lies within the other
 apart : (g : Setup) (W S : ℕ) → WayOut g W → WayOut g S → Within W S → W ≡ S
@@ -93,11 +96,11 @@ module _ (g : Setup) (left given kept : ℕ) (found : List ℕ) (decided : Decid
 
       same : (k : ℕ) → digit S (left + k) ≡ digit (decided .highGiven) k
       same k =
-          branch-digit left (decided .highGiven) S k (let l = s .2 in omega (arith, decided .gives)) (let l = s .3 in omega (arith, decided .gives))
+          high-digit left (decided .highGiven) S k (let l = s .2 in omega (arith, decided .gives)) (let l = s .3 in omega (arith, decided .gives))
 
       keeps : (j : ℕ) → j < count g → In j kept → SettingTrue g m j
       keeps j l h =
-          let r = shifted-in left (decided .highKept) j (subst (In j) (decided .keeps) h) in
+          let r = high-in left (decided .highKept) j (subst (In j) (decided .keeps) h) in
           let one = opposite-digit (decided .above) (decided .highGiven) (decided .highKept) (r .0) (decided .whole) (omega (arith, r .1, decided .all)) in
           s .1 .meets .1 .kept j l (λ q.
           let z : digit S (left + r .0) ≡ 1 = subst (λ (x : ℕ). In x S) (r .1) q in
@@ -105,7 +108,7 @@ module _ (g : Setup) (left given kept : ℕ) (found : List ℕ) (decided : Decid
 
       breaks : Breaks g given m
       breaks j l h =
-          let r = shifted-in left (decided .highGiven) j (subst (In j) (decided .gives) h) in
+          let r = high-in left (decided .highGiven) j (subst (In j) (decided .gives) h) in
           breaks-own g S (s .1) j l (rw (r .1) (same (r .0) ∙ r .2))
 
       each : (W : ℕ) → Listed W found → (j : ℕ) × (j < count g) × In j W × SettingTrue g m j
@@ -142,10 +145,10 @@ module _ (g : Setup) (left given kept : ℕ) (found : List ℕ) (decided : Decid
 
       within : Within (S / 2 ^ left) (decided .highGiven)
       within k h =
-          let z : In (left + k) S = high-digit left S k ∙ h in
+          let z : In (left + k) S = digit-up left S k ∙ h in
           let l : left + k < count g = in-below (count g) (way .below) z in
           let q : ¬ In k (decided .highKept) = λ x.
-          broken-in g m (left + k) (least .1 (left + k) z) (y .models .kept (left + k) l (rw (decided .keeps) (shifted-digit left (decided .highKept) k ∙ x))) in
+          broken-in g m (left + k) (least .1 (left + k) z) (y .models .kept (left + k) l (rw (decided .keeps) (shifted left (decided .highKept) k ∙ x))) in
           omega (arith, opposite-digit (decided .above) (decided .highGiven) (decided .highKept) k (decided .whole) (omega (arith, decided .all)), digit-out k (decided .highKept) q)
 
       high : S < given + 2 ^ left

@@ -1,5 +1,5 @@
 -- The ways out below a bound: the same list where none is between two bounds, and else a list that goes on.
-use mathlib.Core.Path.{_≡_, sym, subst}
+use mathlib.Core.Path.{_≡_}
 use mathlib.Core.Logic.{_⊎_, inl, inr, ⊎-elim, _↔_, Iff·trans, by-cases}
 use mathlib.Core.List.{List, [], _∷_, _++_}
 use Prim.Native.Nat.{ℕ, _+_, _≤_, _<_}
@@ -7,25 +7,27 @@ use native.Mathlib.Decide.{decLe, decLt}
 use native.Mathlib.Numerals.{add-one}
 use native.Mathlib.Omega.{arith}
 use Rattle.sets.specs.Lists.{Exactly}
-use Rattle.sets.proofs.Deciding.{T-dec, dec-and, dec-iff}
-use Rattle.sets.proofs.Lists.{exactly-unique, exactly-iff, exactly-next, listed-append, rising-append, exists}
+use Rattle.sets.proofs.Deciding.{dec-and, dec-iff}
+use Rattle.sets.proofs.Lists.{exactly-unique, exactly-next, exactly-skip, listed-append, rising-append, exists}
 use Rattle.setups.specs.Setups.{Setup, WayOut}
 use Rattle.setups.proofs.Tests.{way-out-dec}
 use Rattle.list.specs.Walking.{Below, Between}
 
+-- the way out at the bound follows
+pub below-next : (g : Setup) (S : ℕ) (list : List ℕ) → Below g S list → WayOut g S → Below g (S + 1) (list ++ (S ∷ []))
+below-next g S list b w = rw (add-one S) (exactly-next (WayOut g) S list b w)
+
 module _ (g : Setup) (low high : ℕ) (list : List ℕ) (l : low ≤ high) (b : Below g low list) where
+  -- none is between the bounds
+  pub below-skip : ¬ Between g low high → Below g high list
+  below-skip none = exactly-skip (WayOut g) low high list l (λ S from to w. none (S, w, from, to)) b
+
   -- a way out below `high` is below `low` or not
   parts : (S : ℕ) → (WayOut g S × (S < high)) ↔ ((WayOut g S × (S < low)) ⊎ (WayOut g S × (low ≤ S) × (S < high)))
   parts S = (
     (λ h. by-cases (decLt S low) (λ k. inl (h .0, k)) (λ k. inr (h .0, omega arith, h .1))),
     ⊎-elim (λ h. (h .0, omega (arith, h .1))) (λ h. (h .0, h .2)),
   )
-
-  -- none is between the bounds
-  pub below-skip : ¬ Between g low high → Below g high list
-  below-skip none =
-      exactly-iff (λ S. WayOut g S × (S < low)) (λ S. WayOut g S × (S < high))
-      (λ S. ((λ h. parts S .1 (inl h)), λ h. ⊎-elim (λ k. k) (λ k. absurd (none (S, k .0, k .1, k .2))) (parts S .0 h))) list b
 
   -- those between the bounds follow
   pub below-more : (more : List ℕ) × Below g high (list ++ more)
@@ -50,7 +52,3 @@ module _ (g : Setup) (low high : ℕ) (list : List ℕ) (l : low ≤ high) (b : 
   below-on long h =
       let m = below-more in
       (m .0, exactly-unique (λ S. WayOut g S × (S < high)) long (list ++ m .0) h (m .1))
-
--- the way out at the bound follows
-pub below-next : (g : Setup) (S : ℕ) (list : List ℕ) → Below g S list → WayOut g S → Below g (S + 1) (list ++ (S ∷ []))
-below-next g S list b w = rw add-one (exactly-next (WayOut g) S list b w)

@@ -1,7 +1,5 @@
 -- `frames::digits::put_byte` meets its contract.
-use mathlib.Core.Path.{_≡_, refl, sym, ap, _∙_}
 use native.Mathlib.Numerals.{add-one}
-use native.Mathlib.Omega.{arith}
 use borrow.Author.Needs.{needs}
 use Rattle.frames.proofs.digits.put_byte.Statement.{statement}
 use Rattle.frames.proofs.digits.put_byte.Tie as tie

@@ -1,5 +1,5 @@
 -- `frames::reading::check_clauses` meets its contract: what has come, with what the lines from `at` on say, is what the whole says.
-use mathlib.Core.Path.{_≡_, refl, sym, _∙_}
+use mathlib.Core.Path.{refl, sym, _∙_}
 use mathlib.Core.Logic.{⊎-elim}
 use mathlib.Core.List.{[]}
 use Prim.Native.Nat.{_+_, _-_, _<_}
@@ -20,7 +20,7 @@ abbrev μ-loop : tie.MeasureT-loop
 moved : (c : tie.At-match-came Inv-loop μ-loop) →
     let a = c .before .before .before .before .before .args in
     let at = c .before .before .before .loop in
-    Underway (a .text .now) (a .from) (a .count) (c .match .hard) (c .match .soft) (at .line + 1) (c .match .at) × (at .at < c .match .at)
+    Underway (a .text .now) (a .from) (a .count) (c .match .hard-filled) (c .match .soft-filled) (at .line + 1) (c .match .at) × (at .at < c .match .at)
 moved c =
     let t = c .before .before .before .before .before .args .text .now in
     let at = c .before .before .before .loop in
@@ -45,26 +45,26 @@ frame-at-requires c κs = search needs
 enum-known-literals : tie.Need-enum-known-literals Inv-loop μ-loop
 enum-known-literals c = search needs
 
-add-hard : tie.Need-add-hard Inv-loop μ-loop
-add-hard c =
+add-hard-filled : tie.Need-add-hard-filled Inv-loop μ-loop
+add-hard-filled c =
     let f = found-tells (c .before .before .before .before .before .before .before .args .text .now) (c .before .before .before .before .before .loop .at) _ (sym (c .before .literals .given .1) ∙ c .before .before .before .frame-at .ensures) in
     omega (arith, f .2, f .3)
 
-add-hard-2 : tie.Need-add-hard-2 Inv-loop μ-loop
-add-hard-2 c =
+add-hard-filled-2 : tie.Need-add-hard-filled-2 Inv-loop μ-loop
+add-hard-filled-2 c =
     let f = found-tells (c .before .before .before .before .before .before .before .args .text .now) (c .before .before .before .before .before .loop .at) _ (sym (c .before .literals .given .1) ∙ c .before .before .before .frame-at .ensures) in
     omega (arith, f .2, f .3)
 
 enum-known-literals-2 : tie.Need-enum-known-literals-2 Inv-loop μ-loop
 enum-known-literals-2 c = search needs
 
-add-soft : tie.Need-add-soft Inv-loop μ-loop
-add-soft c =
+add-soft-filled : tie.Need-add-soft-filled Inv-loop μ-loop
+add-soft-filled c =
     let f = found-tells (c .before .before .before .before .before .before .before .args .text .now) (c .before .before .before .before .before .loop .at) _ (sym (c .before .literals2 .given .1) ∙ c .before .before .before .frame-at .ensures) in
     omega (arith, f .2, f .3)
 
-add-soft-2 : tie.Need-add-soft-2 Inv-loop μ-loop
-add-soft-2 c =
+add-soft-filled-2 : tie.Need-add-soft-filled-2 Inv-loop μ-loop
+add-soft-filled-2 c =
     let f = found-tells (c .before .before .before .before .before .before .before .args .text .now) (c .before .before .before .before .before .loop .at) _ (sym (c .before .literals2 .given .1) ∙ c .before .before .before .frame-at .ensures) in
     omega (arith, f .2, f .3)
 
@@ -113,11 +113,11 @@ check-clauses-spec =
     loop-holds
     frame-at-requires
     enum-known-literals
-    add-hard
-    add-hard-2
+    add-hard-filled
+    add-hard-filled-2
     enum-known-literals-2
-    add-soft
-    add-soft-2
+    add-soft-filled
+    add-soft-filled-2
     enum-known-next
     add-t20
     returns

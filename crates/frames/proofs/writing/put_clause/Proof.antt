@@ -1,12 +1,12 @@
 -- `frames::writing::put_clause` meets its contract: the literals from `i` on are still to be stored from `to` on.
-use mathlib.Core.Path.{_≡_, refl, sym, ap, _∙_}
+use mathlib.Core.Path.{_≡_, refl, ap, _∙_}
 use mathlib.Core.Logic.{_≢_}
 use Prim.Native.Nat.{suc, _+_, _*_, _-_, _<_}
 use native.Mathlib.Omega.{arith}
-use borrow.Author.Needs.{needs}
 use lib.ListN.{length, getD, drop, length-set}
 use lib.Seq.{sets}
-use Rattle.frames.specs.Writing.{line, firstClause}
+use Rattle.frames.specs.Frames.{line}
+use Rattle.frames.specs.Writing.{firstClause}
 use Rattle.frames.proofs.ClauseLines.{no-literal, a-literal, literal-stored, kind-stored, feed-stored}
 use Rattle.frames.proofs.writing.put_clause.Statement.{statement}
 use Rattle.frames.proofs.writing.put_clause.Tie as tie

@@ -1,8 +1,7 @@
 -- `frames::writing::put_setup` meets its contract: the text has room for each part, and the parts one after the other are the whole.
-use mathlib.Core.Path.{_≡_, refl, sym, ap, _∙_}
+use mathlib.Core.Path.{_≡_, _∙_}
 use Prim.Native.Nat.{_+_, _≤_}
 use native.Mathlib.Omega.{arith}
-use borrow.Author.Needs.{needs}
 use lib.ListN.{length, length-set}
 use Rattle.setups.specs.Clauses.{clauses}
 use Rattle.frames.specs.Frames.{lineFeed, hardKind, softKind}

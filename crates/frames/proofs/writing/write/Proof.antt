@@ -1,9 +1,8 @@
 -- `frames::writing::write` meets its contract: the judgement and the text's length say which answer the setup gets.
-use mathlib.Core.Path.{_≡_, refl, sym, ap, _∙_}
-use Prim.Native.Nat.{ℕ, _≤_}
+use mathlib.Core.Path.{_≡_, sym, ap, _∙_}
+use Prim.Native.Nat.{ℕ}
 use native.Mathlib.Omega.{arith}
 use borrow.Author.Needs.{needs}
-use lib.ListN.{length}
 use Rattle.frames.specs.declared.writing.Judged.{Judged}
 use Rattle.frames.specs.Write.{setupRefusal, judgedOf}
 use Rattle.frames.proofs.ClauseLines.{measured}
