@@ -1,10 +1,9 @@
 -- What the question answers: No where the search fails, and Yes with what its model makes true.
-use mathlib.Core.Path.{_≡_, refl, sym, ap, _∙_, subst}
+use mathlib.Core.Path.{_≡_, refl, sym, _∙_, subst}
 use mathlib.Core.Logic.{_↔_, Iff·trans}
-use mathlib.Core.Bool.{Bool, true, false, true≢false}
+use mathlib.Core.Bool.{true, false, true≢false}
 use mathlib.Core.List.{List}
-use Prim.Native.Nat.{ℕ, _-_, _^_, _≤_, _<_, min}
-use native.Mathlib.Nat.{le-of-suc-le-suc}
+use Prim.Native.Nat.{ℕ, _-_, _^_, _<_, min}
 use native.Mathlib.Omega.{arith}
 use lib.Bits.{bitAnd}
 use lib.Dec.{T}
@@ -12,18 +11,16 @@ use lib.ListN.{length, getD, take, length-take, List·getD-eq-default}
 use lib.Pow.{pow-pos}
 use lib.Seq.{getD-take}
 use Rattle.sets.specs.Sets.{In, Within}
-use Rattle.sets.specs.Lists.{Listed}
-use Rattle.sets.specs.Tests.{has}
 use Rattle.sets.proofs.Digits.{within-le, full-in, and-in}
 use Rattle.sets.proofs.Tests.{has-in, in-has}
 use Rattle.setups.specs.Limits.{settingsMost}
-use Rattle.setups.specs.Clauses.{clauses, Assigns}
+use Rattle.setups.specs.Clauses.{Assigns}
 use Rattle.setups.specs.Setups.{Setup, count, SettingTrue}
 use Rattle.setups.specs.Taken.{Taken}
 use Rattle.setups.proofs.Models.{assigns-full}
-use Rattle.question.specs.Asking.{Meets, Breaks, Shows, Says}
+use Rattle.question.specs.Asking.{Meets, Breaks, Says}
 use Rattle.question.specs.Tests.{isTrue, holds, Broken, Asked}
-use Rattle.question.specs.Values.{Decided, Agrees, Opens, Completes}
+use Rattle.question.specs.Values.{Agrees, Opens, Completes}
 use Rattle.question.specs.Steps.{Step, unmoved}
 use Rattle.question.specs.Standings.{Stands}
 use Rattle.question.specs.Searches.{Told}
@@ -101,7 +98,9 @@ module _ (g : Setup) (taken : Taken g) (all : ℕ) (every : all ≡ 2 ^ min (cou
 
       assigns : Assigns (g .variables) (take (g .variables) w)
       assigns = record {
-        size = length-take (g .variables) w ∙ (let e : min (g .variables) (length w) ≡ g .variables = omega (arith, completes .size, taken .variables) in e);
+        size =
+            let e : min (g .variables) (length w) ≡ g .variables = omega (arith, completes .size, taken .variables) in
+            length-take (g .variables) w ∙ e;
         bits = λ i l. omega (arith, same i l, completes .decided i);
       }
 

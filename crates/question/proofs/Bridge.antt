@@ -3,7 +3,7 @@ use mathlib.Core.Path.{_≡_, refl, sym, ap, ap₂, _∙_, subst}
 use mathlib.Core.Logic.{inl, inr, _≢_, _↔_, Iff·trans}
 use mathlib.Core.Bool.{Bool, false, _&&_, _||_}
 use mathlib.Core.List.{List, [], _∷_}
-use Prim.Native.Nat.{ℕ, zero, suc, _+_, _%_, _≤_, _<_, suc-le-suc}
+use Prim.Native.Nat.{ℕ, zero, suc, _<_, suc-le-suc}
 use native.Mathlib.Nat.{not-suc-le-zero, le-of-suc-le-suc, zero-lt-suc, suc-ne-zero}
 use native.Mathlib.Omega.{arith}
 use lib.Dec.{T, eqb, ltb, lt→ltb}
@@ -11,8 +11,8 @@ use lib.ListN.{length, getD}
 use Rattle.sets.specs.Lists.{Listed}
 use Rattle.sets.proofs.Deciding.{and-iff}
 use Rattle.sets.proofs.Lists.{listed-place}
-use Rattle.setups.specs.Limits.{variablesMost, settingsMost}
-use Rattle.setups.specs.Clauses.{clauses, place, wish, literalTrue, clauseTrue, allTrue, LiteralOf}
+use Rattle.setups.specs.Limits.{settingsMost}
+use Rattle.setups.specs.Clauses.{LiteralOf, clauses, place, wish, literalTrue, clauseTrue, allTrue}
 use Rattle.setups.specs.Refusals.{noClauseByte, offends}
 use Rattle.setups.specs.Setups.{Setup, settings, count, SettingTrue}
 use Rattle.setups.specs.Taken.{Taken}
@@ -33,7 +33,8 @@ all-truth m [] = refl
 all-truth m (c ∷ cs) = ap₂ _&&_ (clause-truth m c) (all-truth m cs)
 
 -- a setting passes where there is one and it is true
-setting-truth : (m : List ℕ) (ss : List (List (List ℕ))) (i : ℕ) → T (passesAt (literalTrue m) ss i) ↔ ((i < length ss) × T (allTrue m (getD ss i [])))
+setting-truth : (m : List ℕ) (ss : List (List (List ℕ))) (i : ℕ)
+    → T (passesAt (literalTrue m) ss i) ↔ ((i < length ss) × T (allTrue m (getD ss i [])))
 setting-truth m [] i = ((λ t. absurd t), λ h. not-suc-le-zero (h .0))
 setting-truth m (s ∷ ss) zero = ((λ t. (zero-lt-suc (length ss), subst T (all-truth m s) t)), λ h. subst T (sym (all-truth m s)) (h .1))
 setting-truth m (s ∷ ss) (suc i) =
@@ -80,8 +81,10 @@ module _ (g : Setup) (taken : Taken g) (m w : List ℕ) (same : (i : ℕ) → i 
   -- a setting
   pub holds-true : (i : ℕ) → T (holds (isTrue w) (g .soft) i) ↔ ((i < count g) × SettingTrue g m i)
   holds-true i =
-      Iff·trans (and-iff (ltb i settingsMost) (passesAt (isTrue w) (settings (g .soft)) i))
-      ((λ h. truth .0 (subst T passing (h .1))), λ h. (lt→ltb i settingsMost (omega (arith, h .0, taken .settings)), subst T (sym passing) (truth .1 h)))
+      Iff·trans (and-iff (ltb i settingsMost) (passesAt (isTrue w) (settings (g .soft)) i)) (
+        (λ h. truth .0 (subst T passing (h .1))),
+        λ h. (lt→ltb i settingsMost (omega (arith, h .0, taken .settings)), subst T (sym passing) (truth .1 h)),
+      )
     where
       truth : T (passesAt (literalTrue m) (settings (g .soft)) i) ↔ ((i < count g) × SettingTrue g m i)
       truth = setting-truth m (settings (g .soft)) i

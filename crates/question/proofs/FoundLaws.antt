@@ -41,7 +41,8 @@ less-one S (suc i) (suc j) h l = digit-suc (S - 1) j ∙ step (less-one (S / 2) 
 
 -- a set that has no digit in common with one less has one setting at the most
 lone : (S i j : ℕ) → bitAnd S (S - 1) ≡ 0 → In i S → In j S → i ≡ j
-lone S i j e h k = by-cases (decLt i j) (λ l. absurd (two i j h k l)) (λ n. by-cases (decLt j i) (λ l. absurd (two j i k h l)) (λ q. omega arith))
+lone S i j e h k =
+    by-cases (decLt i j) (λ l. absurd (two i j h k l)) (λ n. by-cases (decLt j i) (λ l. absurd (two j i k h l)) (λ q. omega arith))
   where
     two : (a b : ℕ) → In a S → In b S → ¬ (a < b)
     two a b h k l = none-in b (subst (In b) e (and-in S (S - 1) b .1 (k, less-one S a b h l ∙ k)))
@@ -49,7 +50,8 @@ lone S i j e h k = by-cases (decLt i j) (λ l. absurd (two i j h k l)) (λ n. by
 pub keeps-last : (kept left : ℕ) → bitAnd left (left - 1) ≡ 0 → KeepsLast kept left (bitOr kept left)
 keeps-last kept left e = record {
   grows = λ i h. or-joins kept left i .1 (inl h);
-  only = λ test each one i h. ⊎-elim (each i) (λ k. subst (λ (x : ℕ). T (test x)) (lone left (one .0) i e (one .1) k) (one .2)) (or-joins kept left i .0 h);
+  only = λ test each one i h.
+      ⊎-elim (each i) (λ k. subst (λ (x : ℕ). T (test x)) (lone left (one .0) i e (one .1) k) (one .2)) (or-joins kept left i .0 h);
 }
 
 -- ---- all found sets
@@ -88,7 +90,8 @@ module _ (kept possible : ℕ) (found : List ℕ) where
     }
 
     -- none of its settings is possible
-    pub narrows-none : i < length found → bitAnd (getD found i 0) possible ≡ 0 → Narrows kept possible found (record { fails = true; kept = wider })
+    pub narrows-none : i < length found → bitAnd (getD found i 0) possible ≡ 0
+        → Narrows kept possible found (record { fails = true; kept = wider })
     narrows-none l e = record {
       grows = at .grows;
       stays = λ test could fit. let one = one-left l test could fit in absurd (none-in (one .0) (subst (In (one .0)) e (one .1)));
@@ -121,7 +124,8 @@ module _ (kept sure : ℕ) (found : List ℕ) where
     fitting-more l s = record {
       upto = omega arith;
       keeps = at .keeps;
-      each = λ j k. by-cases (decLt j i) (at .each j) (λ n. subst (λ (x : ℕ). Share (getD found x 0) sure) (let e : i ≡ j = omega arith in e) s);
+      each = λ j k.
+          by-cases (decLt j i) (at .each j) (λ n. subst (λ (x : ℕ). Share (getD found x 0) sure) (let e : i ≡ j = omega arith in e) s);
     }
 
     pub fitting-done : length found ≤ i → Fit kept found (has sure)

@@ -1,9 +1,9 @@
 -- Passes that force values: over the clauses that are owed, and over the settings that are given up.
-use mathlib.Core.Path.{_≡_, refl, sym, ap, _∙_, subst}
+use mathlib.Core.Path.{_≡_, refl, sym, subst}
 use mathlib.Core.Logic.{_≢_, _↔_}
-use mathlib.Core.Bool.{Bool, true, false, _||_, _&&_, true≢false}
+use mathlib.Core.Bool.{Bool, true, false, _||_, true≢false}
 use mathlib.Core.List.{List, [], _∷_}
-use Prim.Native.Nat.{ℕ, zero, suc, _+_, _^_, _≤_, _<_, min, zero-le, suc-le-suc}
+use Prim.Native.Nat.{ℕ, suc, _+_, _^_, _≤_, _<_, min, zero-le, suc-le-suc}
 use native.Mathlib.Nat.{zero-lt-suc, zero-add}
 use native.Mathlib.Omega.{arith}
 use lib.Dec.{T, ltb, lt→ltb}
@@ -23,7 +23,8 @@ use Rattle.question.specs.Selectors.{next, Owes, Owing}
 use Rattle.question.specs.Steps.{Step, Sees, Fresh, Ended}
 use Rattle.question.specs.declared.forcing.Forced.{Forced}
 use Rattle.question.specs.declared.selectors.Owed.{Owed}
-use Rattle.question.proofs.Verdicts.{verdicts, verdict-clause, verdict-setting, verdicts-length, verdicts-end, verdicts-literal, first-fails}
+use Rattle.question.proofs.Verdicts.{verdicts, verdict-clause, verdict-setting, verdicts-length}
+use Rattle.question.proofs.Verdicts.{verdicts-end, verdicts-literal, first-fails}
 use Rattle.question.proofs.SelectorLaws.{Along, along-starts, along-ends, along-reads, along-inside}
 use Rattle.question.proofs.StepLaws.{step-none, step-then, sees-more, fresh-more}
 
@@ -34,7 +35,8 @@ abbrev OwedFrom : Owed → ℕ → List Bool → Type 0
 OwedFrom owed n [] = Unit {0}
 OwedFrom owed n (passes ∷ rest) = (Owes owed n → T passes) × OwedFrom owed (next n) rest
 
-owed-from : (owed : Owed) (k : ℕ) (list : List Bool) → ((j : ℕ) → j < length list → Owes owed (min (k + j) settingsMost) → T (getD list j false))
+owed-from : (owed : Owed) (k : ℕ) (list : List Bool)
+    → ((j : ℕ) → j < length list → Owes owed (min (k + j) settingsMost) → T (getD list j false))
     → OwedFrom owed (min k settingsMost) list
 owed-from owed k [] h = tt
 owed-from owed k (passes ∷ rest) h = (
@@ -70,9 +72,11 @@ forcing-starts owed bytes earlier n fine e = rw e (record {
         (owing j (subst (λ (x : ℕ). j < x) (verdicts-length (isTrue m) false (clauses bytes)) l)
         (subst (λ (x : ℕ). Owes owed (min x settingsMost)) (zero-add j) o))
 
-module _ (owed : Owed) (bytes : List ℕ) (earlier forced : Forced) (seen : Seen) (n i : ℕ) (at : Forcing owed bytes earlier forced seen n i) (l : i < length bytes) where
+module _ (owed : Owed) (bytes : List ℕ) (earlier forced : Forced) (seen : Seen) (n i : ℕ)
+    (at : Forcing owed bytes earlier forced seen n i) (l : i < length bytes) where
   -- one literal more
-  pub forcing-reads : getD bytes i 0 ≢ 0 → (p : ℕ) → p ≡ slot (getD bytes i 0) → (seen′ : Seen) → seen′ ≡ seeValue seen (getD bytes i 0) (getD (forced .values) p 0)
+  pub forcing-reads : getD bytes i 0 ≢ 0 → (p : ℕ) → p ≡ slot (getD bytes i 0) → (seen′ : Seen)
+      → seen′ ≡ seeValue seen (getD bytes i 0) (getD (forced .values) p 0)
       → Forcing owed bytes earlier forced seen′ n (i + 1)
   forcing-reads z p s seen′ e = rw (e, s) (record {
     upto = omega arith;
@@ -88,7 +92,8 @@ module _ (owed : Owed) (bytes : List ℕ) (earlier forced : Forced) (seen : Seen
         );
   })
 
-  module _ (z : getD bytes i 0 ≡ 0) (due : Bool) (is : (due ≡ true) ↔ Owes owed n) (after : Forced) (end : Step (λ m. T due → Ended m seen) forced after) where
+  module _ (z : getD bytes i 0 ≡ 0) (due : Bool) (is : (due ≡ true) ↔ Owes owed n) (after : Forced)
+      (end : Step (λ m. T due → Ended m seen) forced after) where
     -- what is said of an answer where the clause ends
     at-end : (m : List ℕ) → Decided m → Owing owed (isTrue m) bytes → Agrees (earlier .values) m
         → (T due → Ended m seen) × OwedFrom owed (next n) (verdicts (isTrue m) false (clauses (drop (i + 1) bytes)))
@@ -133,7 +138,8 @@ pub record Giving (given : ℕ) (soft : List ℕ) (earlier forced : Forced) (n i
   pub rest : (m : List ℕ) → Decided m → Broken given (isTrue m) soft → Agrees (earlier .values) m
       → (t : Bool) × BrokenFrom given n (verdicts (isTrue m) t (clauses (drop i soft)))
 
-pub giving-starts : (given : ℕ) (soft : List ℕ) (earlier : Forced) (n : ℕ) → earlier .fails ≡ false → n ≡ 0 → Giving given soft earlier earlier n 0
+pub giving-starts : (given : ℕ) (soft : List ℕ) (earlier : Forced) (n : ℕ) → earlier .fails ≡ false → n ≡ 0
+    → Giving given soft earlier earlier n 0
 giving-starts given soft earlier n fine e = rw e (record {
   along = along-starts soft 0 refl;
   fine = fine;
@@ -142,11 +148,13 @@ giving-starts given soft earlier n fine e = rw e (record {
     false,
     λ j l h t.
         broken (0 + j) h (and-both (ltb (0 + j) settingsMost) (passesAt (isTrue m) (settings soft) (0 + j)) (lt→ltb (0 + j) settingsMost l)
-        (subst T (sym (verdict-setting (isTrue m) soft (0 + j))) (subst (λ (x : ℕ). T (getD (verdicts (isTrue m) false (clauses soft)) x false)) (sym (zero-add j)) t))),
+        (subst T (sym (verdict-setting (isTrue m) soft (0 + j)))
+        (subst (λ (x : ℕ). T (getD (verdicts (isTrue m) false (clauses soft)) x false)) (sym (zero-add j)) t))),
   );
 })
 
-module _ (given : ℕ) (soft : List ℕ) (earlier forced : Forced) (n i : ℕ) (at : Giving given soft earlier forced n i) (l : i < length soft) where
+module _ (given : ℕ) (soft : List ℕ) (earlier forced : Forced) (n i : ℕ) (at : Giving given soft earlier forced n i)
+    (l : i < length soft) where
   -- the setting at hand ends
   pub giving-ends : getD soft i 0 ≡ 0 → (n′ : ℕ) → n′ ≡ next n → Giving given soft earlier forced n′ (i + 1)
   giving-ends z n′ e = record {

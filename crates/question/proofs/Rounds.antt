@@ -1,25 +1,22 @@
 -- Rounds of the rules: one round, and one after another.
-use mathlib.Core.Path.{_≡_, refl, sym, ap, _∙_, subst}
-use mathlib.Core.Logic.{_≢_, _↔_}
-use mathlib.Core.Bool.{Bool, true, false, cond, _&&_, true≢false, false≢true}
-use mathlib.Core.List.{List, []}
-use Prim.Native.Nat.{ℕ, _+_, _-_, _*_, _^_, _≤_, _<_, min}
-use native.Mathlib.Nat.{le-refl}
+use mathlib.Core.Path.{_≡_, refl, sym, _∙_, subst}
+use mathlib.Core.Logic.{_≢_}
+use mathlib.Core.Bool.{Bool, true, false, cond, true≢false, false≢true}
+use mathlib.Core.List.{List}
+use Prim.Native.Nat.{ℕ, _+_, _-_, _*_, _^_, _<_, min}
 use native.Mathlib.Omega.{arith}
 use lib.Dec.{T, ltb}
-use lib.ListN.{length, getD}
 use Rattle.sets.specs.Sets.{In, Within}
-use Rattle.sets.specs.Tests.{has}
-use Rattle.sets.proofs.Deciding.{and-right, bool-case, cond-case}
+use Rattle.sets.proofs.Deciding.{and-right}
 use Rattle.sets.proofs.Digits.{in-below, within-le, within-trans, within-self}
 use Rattle.sets.proofs.Tests.{has-in}
 use Rattle.setups.specs.Limits.{settingsMost}
 use Rattle.setups.specs.Clauses.{clauses}
 use Rattle.setups.specs.Setups.{settings}
 use Rattle.setups.specs.Searching.{freeCount}
-use Rattle.question.specs.Tests.{isTrue, mayBe, passes, passesAt, holds, Asked}
-use Rattle.question.specs.Founds.{Each, Fit, Narrows}
-use Rattle.question.specs.Selectors.{Owing}
+use Rattle.question.specs.Tests.{isTrue, mayBe, passesAt, holds, Asked}
+use Rattle.question.specs.Founds.{Each, Narrows}
+use Rattle.question.specs.Selectors.{Owing, OwingBoth}
 use Rattle.question.specs.Values.{Decided, Agrees}
 use Rattle.question.specs.Steps.{Step, unmoved}
 use Rattle.question.specs.Standings.{Stands}
@@ -35,18 +32,40 @@ use Rattle.question.proofs.TestLaws.{holds-more, all-at, true-may}
 
 -- ---- what is asked, as the passes take it
 
--- each kept setting's clause is owed
-pub asked-kept : (kept : ℕ) (hard soft found : List ℕ) (test : ℕ → Bool) → kept < 2 ^ settingsMost → Asked kept hard soft found test
-    → Owing (Only kept) test soft
-asked-kept kept hard soft found test small asked i l h =
-    let e : min i settingsMost ≡ i = let k = in-below settingsMost small h in omega arith in
-    let held = asked .fit .keeps i (subst (λ (x : ℕ). In x kept) e h) in
-    subst T (verdict-setting test soft i ∙ verdict-clause test (clauses soft) i)
-    (and-right (ltb i settingsMost) (passesAt test (settings soft) i) held)
+-- each kept setting's clause is owed, and each hard clause
+asked-both : (kept : ℕ) (hard soft found : List ℕ) (test : ℕ → Bool) → kept < 2 ^ settingsMost → Asked kept hard soft found test
+    → OwingBoth kept test hard soft
+asked-both kept hard soft found test small asked = record { keeps = keeps; rules = λ i l h. all-at test (clauses hard) (asked .rules) i l }
+  where
+    keeps : Owing (Only kept) test soft
+    keeps i l h =
+        let e : min i settingsMost ≡ i = let k = in-below settingsMost small h in omega arith in
+        let held = asked .fit .keeps i (subst (λ (x : ℕ). In x kept) e h) in
+        subst T (verdict-setting test soft i ∙ verdict-clause test (clauses soft) i)
+        (and-right (ltb i settingsMost) (passesAt test (settings soft) i) held)
 
--- and each hard clause
-pub asked-hard : (kept : ℕ) (hard soft found : List ℕ) (test : ℕ → Bool) → Asked kept hard soft found test → Owing Every test hard
-asked-hard kept hard soft found test asked i l h = all-at test (clauses hard) (asked .rules) i l
+-- the pass over the kept settings alone, where it fails
+pub both-first : (kept : ℕ) (hard soft : List ℕ) (before keeps : Forced) → Step (λ m. Owing (Only kept) (isTrue m) soft) before keeps
+    → Step (λ m. OwingBoth kept (isTrue m) hard soft) before keeps
+both-first kept hard soft before keeps step =
+    step-weaker (λ m. OwingBoth kept (isTrue m) hard soft) (λ m. Owing (Only kept) (isTrue m) soft) before keeps step
+    (λ m both. both .keeps)
+
+-- and the one over the hard clauses after it
+pub both-second : (kept : ℕ) (hard soft : List ℕ) (before keeps rules : Forced)
+    → Step (λ m. Owing (Only kept) (isTrue m) soft) before keeps
+    → Step (λ m. Owing Every (isTrue m) hard) keeps rules → Step (λ m. OwingBoth kept (isTrue m) hard soft) before rules
+both-second kept hard soft before keeps rules first second =
+    step-then (λ m. OwingBoth kept (isTrue m) hard soft) (λ m. Owing Every (isTrue m) hard) before keeps rules
+    (both-first kept hard soft before keeps first) second (λ m d both agrees. both .rules)
+
+-- both passes keep what answers the question
+pub asked-step : (kept : ℕ) (hard soft found values : List ℕ) (forced : Forced) → kept < 2 ^ settingsMost
+    → Step (λ m. OwingBoth kept (isTrue m) hard soft) (unmoved values) forced
+    → Step (λ m. Asked kept hard soft found (isTrue m)) (unmoved values) forced
+asked-step kept hard soft found values forced small step =
+    step-weaker (λ m. Asked kept hard soft found (isTrue m)) (λ m. OwingBoth kept (isTrue m) hard soft) (unmoved values) forced step
+    (λ m asked. asked-both kept hard soft found (isTrue m) small asked)
 
 -- ---- one round
 
@@ -64,6 +83,10 @@ module _ (kept : ℕ) (hard soft found values : List ℕ) where
 
   module _ (forced : Forced) (step : Step (λ m. Asked kept hard soft found (isTrue m)) (unmoved values) forced)
       (standing : Standing) (stands : Stands (forced .values) soft standing) where
+    -- a round that does not fail
+    abbrev ends : Bool → ℕ → Round
+    ends moved wider = record { fails = false; moved = moved; kept = wider; standing = standing; values = forced .values }
+
     -- what holds in the end is possible
     possible : (m : List ℕ) → Agrees (forced .values) m → (i : ℕ) → T (holds (isTrue m) soft i) → In i (standing .possible)
     possible m agrees i t =
@@ -88,7 +111,7 @@ module _ (kept : ℕ) (hard soft found values : List ℕ) where
 
       -- no more is kept
       pub settles-same : narrowed .kept ≡ kept
-          → Settles kept hard soft found values (record { fails = false; moved = forced .moved; kept = kept; standing = standing; values = forced .values })
+          → Settles kept hard soft found values (ends (forced .moved) kept)
       settles-same e = record {
         less = step .less;
         grows = within-self kept;
@@ -99,7 +122,7 @@ module _ (kept : ℕ) (hard soft found values : List ℕ) where
 
       -- more is kept
       pub settles-wider : narrowed .kept ≢ kept
-          → Settles kept hard soft found values (record { fails = false; moved = true; kept = narrowed .kept; standing = standing; values = forced .values })
+          → Settles kept hard soft found values (ends true (narrowed .kept))
       settles-wider n = record {
         less = step .less;
         grows = narrows .grows;
@@ -108,26 +131,14 @@ module _ (kept : ℕ) (hard soft found values : List ℕ) where
         stays = λ m d asked agrees. (refl, step .stays m d asked agrees .1, narrowed-for m d asked agrees .1);
       }
 
--- the two passes one after the other
-pub round-keeps : (kept : ℕ) (hard soft found values : List ℕ) (keeps : Forced) → kept < 2 ^ settingsMost
-    → Step (λ m. Owing (Only kept) (isTrue m) soft) (unmoved values) keeps → Step (λ m. Asked kept hard soft found (isTrue m)) (unmoved values) keeps
-round-keeps kept hard soft found values keeps small step =
-    step-weaker (λ m. Asked kept hard soft found (isTrue m)) (λ m. Owing (Only kept) (isTrue m) soft) (unmoved values) keeps step
-    (λ m asked. asked-kept kept hard soft found (isTrue m) small asked)
-
-pub round-rules : (kept : ℕ) (hard soft found values : List ℕ) (keeps rules : Forced)
-    → Step (λ m. Asked kept hard soft found (isTrue m)) (unmoved values) keeps → Step (λ m. Owing Every (isTrue m) hard) keeps rules
-    → Step (λ m. Asked kept hard soft found (isTrue m)) (unmoved values) rules
-round-rules kept hard soft found values keeps rules first second =
-    step-then (λ m. Asked kept hard soft found (isTrue m)) (λ m. Owing Every (isTrue m) hard) (unmoved values) keeps rules first second
-    (λ m d asked agrees. asked-hard kept hard soft found (isTrue m) asked)
-
 -- ---- one round after another
 
 -- what is asked, with more kept that holds
-pub asked-wider : (kept wider : ℕ) (hard soft found : List ℕ) (test : ℕ → Bool) → Asked kept hard soft found test → Each wider (holds test soft)
+pub asked-wider : (kept wider : ℕ) (hard soft found : List ℕ) (test : ℕ → Bool) → Asked kept hard soft found test
+    → Each wider (holds test soft)
     → Asked wider hard soft found test
-asked-wider kept wider hard soft found test asked each = record { rules = asked .rules; fit = record { keeps = each; each = asked .fit .each } }
+asked-wider kept wider hard soft found test asked each =
+    record { rules = asked .rules; fit = record { keeps = each; each = asked .fit .each } }
 
 -- and with less kept
 pub asked-narrower : (kept wider : ℕ) (hard soft found : List ℕ) (test : ℕ → Bool) → Within kept wider → Asked wider hard soft found test
@@ -156,7 +167,9 @@ left r = 2 * (freeCount (r .values) + (2 ^ settingsMost - r .kept)) + cond (r .m
 
 pub left-less : (hard soft found : List ℕ) (r s : Round) → r .moved ≡ true → s .kept < 2 ^ settingsMost
     → Settles (r .kept) hard soft found (r .values) s → left s < left r
-left-less hard soft found r s t small next =
-    rw t (bool-case (λ q. s .moved ≡ q → 2 * (freeCount (s .values) + (2 ^ settingsMost - s .kept)) + cond q 1 0 < 2 * (freeCount (r .values) + (2 ^ settingsMost - r .kept)) + 1)
-    (s .moved) (λ _ e. omega (arith, next .moves e, within-le (r .kept) (s .kept) (next .grows)))
-    (λ _ e. omega (arith, next .less, within-le (r .kept) (s .kept) (next .grows))) refl)
+left-less hard soft found r s t small next = rw t (go (s .moved) refl)
+  where
+    go : (q : Bool) → s .moved ≡ q
+        → 2 * (freeCount (s .values) + (2 ^ settingsMost - s .kept)) + cond q 1 0 < 2 * (freeCount (r .values) + (2 ^ settingsMost - r .kept)) + 1
+    go true e = omega (arith, next .moves e, within-le (r .kept) (s .kept) (next .grows))
+    go false e = omega (arith, next .less, within-le (r .kept) (s .kept) (next .grows))

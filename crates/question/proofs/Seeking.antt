@@ -1,15 +1,13 @@
 -- The search: what it tells where settling fails, where what is asked is met, where no variable is free, and after a split.
-use mathlib.Core.Path.{_≡_, refl, sym, _∙_, subst}
+use mathlib.Core.Path.{_≡_, sym, _∙_, subst}
 use mathlib.Core.Logic.{_⊎_, inl, inr, ⊎-elim, by-cases}
 use mathlib.Core.Bool.{Bool, true, false, true≢false, false≢true}
 use mathlib.Core.List.{List}
 use Prim.Native.Nat.{ℕ, _-_, _≤_, _<_}
-use native.Mathlib.Nat.{le-of-suc-le-suc}
 use native.Mathlib.Decide.{ℕ-discrete}
 use native.Mathlib.Omega.{arith}
 use lib.Dec.{T}
 use lib.ListN.{getD, set}
-use Rattle.sets.specs.Sets.{In}
 use Rattle.sets.specs.Tests.{has}
 use Rattle.setups.specs.Clauses.{clauses, wish}
 use Rattle.setups.specs.Searching.{freeCount}
@@ -25,7 +23,8 @@ use Rattle.question.proofs.TestLaws.{all-more, holds-more, true-stays, 
 use Rattle.question.proofs.Rounds.{asked-wider, asked-narrower}
 
 -- kept settings and found sets, over a test that passes more
-fit-more : (kept : ℕ) (found : List ℕ) (test more : ℕ → Bool) → ((i : ℕ) → T (test i) → T (more i)) → Fit kept found test → Fit kept found more
+fit-more : (kept : ℕ) (found : List ℕ) (test more : ℕ → Bool) → ((i : ℕ) → T (test i) → T (more i)) → Fit kept found test
+    → Fit kept found more
 fit-more kept found test more weaker fit = record {
   keeps = λ i h. weaker i (fit .keeps i h);
   each = λ W h. let one = fit .each W h in (one .0, one .1, weaker (one .0) (one .2));
@@ -38,7 +37,8 @@ either m b d =
 
 module _ (kept : ℕ) (hard soft found values : List ℕ) (s : Round) (settles : Settles kept hard soft found values s) where
   -- settling fails
-  pub told-stuck : s .fails ≡ true → (w : List ℕ) → Told (λ m. Asked kept hard soft found (isTrue m)) values (record { fails = true; values = w })
+  pub told-stuck : s .fails ≡ true → (w : List ℕ)
+      → Told (λ m. Asked kept hard soft found (isTrue m)) values (record { fails = true; values = w })
   told-stuck fails w = record {
     finds = λ e. absurd (true≢false e);
     fails = λ _ m d agrees asked. true≢false (sym fails ∙ settles .stays m d asked agrees .0);
@@ -63,9 +63,13 @@ module _ (kept : ℕ) (hard soft found values : List ℕ) (s : Round) (settles :
     -- no variable is free, and what is asked is not met
     pub told-full : Decided (s .values) → ¬ Done (s .kept) (s .standing .sure) (s .values) hard found → (w : List ℕ)
         → Told (λ m. Asked kept hard soft found (isTrue m)) values (record { fails = true; values = w })
-    told-full full not-done w = record { finds = λ e. absurd (true≢false e); fails = λ _ m d agrees asked. not-done (done m d agrees asked) }
+    told-full full not-done w = record {
+      finds = λ e. absurd (true≢false e);
+      fails = λ _ m d agrees asked. not-done (done m d agrees asked);
+    }
       where
-        done : (m : List ℕ) → Decided m → Agrees values m → Asked kept hard soft found (isTrue m) → Done (s .kept) (s .standing .sure) (s .values) hard found
+        done : (m : List ℕ) → Decided m → Agrees values m → Asked kept hard soft found (isTrue m)
+            → Done (s .kept) (s .standing .sure) (s .values) hard found
         done m d agrees asked =
             let r = settles .stays m d asked agrees in
             let was : (b : ℕ) → T (isTrue m b) → T (isTrue (s .values) b) = λ b. true-was (s .values) m (r .1) b (full (slot b)) in
@@ -73,7 +77,8 @@ module _ (kept : ℕ) (hard soft found values : List ℕ) (s : Round) (settles :
             record {
               rules = all-more (isTrue m) (isTrue (s .values)) was (clauses hard) (wider .rules);
               fit = fit-more (s .kept) found (holds (isTrue m) soft) (has (s .standing .sure))
-                  (λ i t. subst T (sym (settles .stands fine .sure i)) (holds-more (isTrue m) (isTrue (s .values)) was soft i t)) (wider .fit);
+                  (λ i t. subst T (sym (settles .stands fine .sure i)) (holds-more (isTrue m) (isTrue (s .values)) was soft i t))
+                  (wider .fit);
             }
 
   -- ---- a split on the literal b
@@ -82,10 +87,12 @@ module _ (kept : ℕ) (hard soft found values : List ℕ) (s : Round) (settles :
     -- what either side finds
     found-there : (r : Sought) (start : List ℕ) → Told (λ m. Asked (s .kept) hard soft found (isTrue m)) start r → r .fails ≡ false
         → (m : List ℕ) → Agrees (r .values) m → Asked kept hard soft found (isTrue m)
-    found-there r start told fine m agrees = asked-narrower kept (s .kept) hard soft found (isTrue m) (settles .grows) (told .finds fine m agrees)
+    found-there r start told fine m agrees =
+        asked-narrower kept (s .kept) hard soft found (isTrue m) (settles .grows) (told .finds fine m agrees)
 
     -- the first side does not fail
-    pub told-first : (r : Sought) → Told (λ m. Asked (s .kept) hard soft found (isTrue m)) (set (s .values) (slot b) (wish b)) r → r .fails ≡ false
+    pub told-first : (r : Sought) → Told (λ m. Asked (s .kept) hard soft found (isTrue m)) (set (s .values) (slot b) (wish b)) r
+        → r .fails ≡ false
         → Told (λ m. Asked kept hard soft found (isTrue m)) values r
     told-first r told fine = record {
       finds = found-there r (set (s .values) (slot b) (wish b)) told;
@@ -93,7 +100,8 @@ module _ (kept : ℕ) (hard soft found values : List ℕ) (s : Round) (settles :
     }
 
     -- it does, and the second side tells
-    pub told-second : (r q : Sought) → Told (λ m. Asked (s .kept) hard soft found (isTrue m)) (set (s .values) (slot b) (wish b)) r → r .fails ≡ true
+    pub told-second : (r q : Sought) → Told (λ m. Asked (s .kept) hard soft found (isTrue m)) (set (s .values) (slot b) (wish b)) r
+        → r .fails ≡ true
         → Told (λ m. Asked (s .kept) hard soft found (isTrue m)) (set (s .values) (slot b) (1 - wish b)) q
         → Told (λ m. Asked kept hard soft found (isTrue m)) values q
     told-second r q first fails second = record { finds = found-there q (set (s .values) (slot b) (1 - wish b)) second; fails = none }

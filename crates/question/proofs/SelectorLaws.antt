@@ -23,7 +23,8 @@ pub beyond : (S n : ℕ) → S < 2 ^ settingsMost → settingsMost ≤ n → ¬ 
 beyond S n s l h = omega (arith, in-below settingsMost s h)
 
 -- `has`, asked for the setting of selector n
-pub has-selector : (b : Bool) (S n k : ℕ) → n < settingsMost → k ≡ n + 1 → (b ≡ true) ↔ Share S (only settingsMost k) → (b ≡ true) ↔ In n S
+pub has-selector : (b : Bool) (S n k : ℕ) → n < settingsMost → k ≡ n + 1 → (b ≡ true) ↔ Share S (only settingsMost k)
+    → (b ≡ true) ↔ In n S
 has-selector b S n k l e h = Iff·trans h (rw (e, add-one) (share-only settingsMost n S l))
 
 -- nothing is added where the setting does not count, or a set cannot have it
@@ -34,7 +35,8 @@ pub adds-beyond : (S n : ℕ) (counts : Bool) → settingsMost ≤ n → Adds S 
 adds-beyond S n counts l i = (inl, ⊎-elim (λ h. h) (λ h. absurd (let b : ⊥ = omega arith in b)))
 
 -- `with`, given the setting of selector n
-pub adds-one : (S n k R : ℕ) (counts : Bool) → counts ≡ true → n < settingsMost → k ≡ n + 1 → Joins S (only settingsMost k) R → Adds S counts n R
+pub adds-one : (S n k R : ℕ) (counts : Bool) → counts ≡ true → n < settingsMost → k ≡ n + 1 → Joins S (only settingsMost k) R
+    → Adds S counts n R
 adds-one S n k R counts t l e h i = Iff·trans (h i) (⊎-elim inl to, ⊎-elim inl from)
   where
     to : In i (only settingsMost k) → In i S ⊎ (T counts × (i ≡ n) × (i < settingsMost))
@@ -61,10 +63,16 @@ module _ (soft : List ℕ) (n i : ℕ) (at : Along soft n i) (l : i < length sof
   here = rw (add-one, drop-cons soft i 0 l)
 
   pub along-ends : getD soft i 0 ≡ 0 → (n′ : ℕ) → n′ ≡ next n → Along soft n′ (i + 1)
-  along-ends z n′ e = record { upto = omega arith; sums = omega (arith, at .sums, here, settings-end (getD soft i 0) z (drop (i + 1) soft)) }
+  along-ends z n′ e = record {
+    upto = omega arith;
+    sums = omega (arith, at .sums, here, settings-end (getD soft i 0) z (drop (i + 1) soft));
+  }
 
   pub along-reads : getD soft i 0 ≢ 0 → Along soft n (i + 1)
-  along-reads z = record { upto = omega arith; sums = omega (arith, at .sums, here, settings-literal (getD soft i 0) z (drop (i + 1) soft)) }
+  along-reads z = record {
+    upto = omega arith;
+    sums = omega (arith, at .sums, here, settings-literal (getD soft i 0) z (drop (i + 1) soft));
+  }
 
   -- a literal of a setting that there is: its setting ends further on
   pub along-inside : getD soft i 0 ≢ 0 → n < settingsMost → n < length (settings soft) → 0 < length (clauses (drop (i + 1) soft))

@@ -1,5 +1,5 @@
 -- How clauses stand, a byte at a time: one clause, and all of a buffer.
-use mathlib.Core.Path.{_≡_, refl, sym, ap, _∙_}
+use mathlib.Core.Path.{_≡_, sym, ap, _∙_}
 use mathlib.Core.Logic.{_≢_}
 use mathlib.Core.Bool.{true, false, _&&_, or-true, or-false}
 use mathlib.Core.List.{List}
@@ -51,7 +51,10 @@ module _ (values hard : List ℕ) (chance : Chance) (i : ℕ) (at : Meeting valu
   pub meeting-reads : i < length hard → getD hard i 0 ≢ 0 → (p : ℕ) → p ≡ slot (getD hard i 0)
       → (next : Chance) → next ≡ looked chance (getD hard i 0) (getD values p 0) → Meeting values hard next (i + 1)
   meeting-reads l n p s next e =
-      rw (e, s) (record { upto = omega arith; gives = ap allOf (sym (verdicts-literal (isTrue values) (chance .sure) hard i l n)) ∙ at .gives })
+      rw (e, s) (record {
+        upto = omega arith;
+        gives = ap allOf (sym (verdicts-literal (isTrue values) (chance .sure) hard i l n)) ∙ at .gives;
+      })
 
   pub meeting-done : length hard ≤ i → true ≡ allPass (isTrue values) (clauses hard)
   meeting-done l = ap allOf (sym (verdicts-past (isTrue values) (chance .sure) hard i l)) ∙ at .gives

@@ -1,9 +1,8 @@
 -- Steps: one after another, at the end of a clause, and where a literal is denied.
 use mathlib.Core.Path.{_≡_, refl, sym, ap, _∙_, subst}
-use mathlib.Core.Logic.{_≢_}
-use mathlib.Core.Bool.{Bool, true, false, _||_, cond, true≢false, false≢true, or-false, or-self}
+use mathlib.Core.Bool.{Bool, true, false, _||_, true≢false, or-false, or-self}
 use mathlib.Core.List.{List}
-use Prim.Native.Nat.{ℕ, _-_, _≤_, _<_}
+use Prim.Native.Nat.{ℕ, _-_, _<_}
 use native.Mathlib.Nat.{le-refl, le-of-suc-le-suc}
 use native.Mathlib.Omega.{arith}
 use borrow.Author.Tests.{eqb-true, eqb-false, eq-eqb, ltb-true, ltb-false}
@@ -42,7 +41,11 @@ step-fails Answer now none = record {
 
 -- a step keeps the answers of a narrower kind too
 pub step-weaker : (A B : List ℕ → Type 0) (a b : Forced) → Step B a b → ((m : List ℕ) → A m → B m) → Step A a b
-step-weaker A B a b step still = record { less = step .less; moves = step .moves; stays = λ m d x agrees. step .stays m d (still m x) agrees }
+step-weaker A B a b step still = record {
+  less = step .less;
+  moves = step .moves;
+  stays = λ m d x agrees. step .stays m d (still m x) agrees;
+}
 
 -- one step after another, where each answer of the first is one of the second
 pub step-then : (A B : List ℕ → Type 0) (a b c : Forced) → Step A a b → Step B b c
@@ -97,7 +100,8 @@ fresh-more values seen b f =
 
 module _ (now : Forced) where
   -- wholly false
-  pub ends-false : (due : Bool) (seen : Seen) → T due → seen ≡ AllFalse → Step (λ m. T due → Ended m seen) now (record { fails = true; moved = now .moved; values = now .values })
+  pub ends-false : (due : Bool) (seen : Seen) → T due → seen ≡ AllFalse
+      → Step (λ m. T due → Ended m seen) now (record { fails = true; moved = now .moved; values = now .values })
   ends-false due seen d e =
       step-fails (λ m. T due → Ended m seen) now
       (λ m _ a _. let end = subst (Ended m) e (a d) in subst T (end .1) (end .2))
@@ -117,16 +121,19 @@ module _ (now : Forced) where
 
 module _ (now : Forced) (b : ℕ) where
   -- it is true
-  pub denied-true : getD (now .values) (slot b) 0 ≡ wish b → Step (λ m. isTrue m b ≡ false) now (record { fails = true; moved = now .moved; values = now .values })
+  pub denied-true : getD (now .values) (slot b) 0 ≡ wish b
+      → Step (λ m. isTrue m b ≡ false) now (record { fails = true; moved = now .moved; values = now .values })
   denied-true e =
       step-fails (λ m. isTrue m b ≡ false) now
       (λ m _ a agrees. true≢false (sym (eq-eqb (getD m (slot b) 0) (wish b) (agrees (slot b) (omega (arith, wish-small b)) ∙ e)) ∙ a))
 
   -- it is false or free
-  pub denied : Step (λ m. isTrue m b ≡ false) now (record { fails = false; moved = now .moved; values = set (now .values) (slot b) (1 - wish b) })
+  pub denied : Step (λ m. isTrue m b ≡ false) now
+      (record { fails = false; moved = now .moved; values = set (now .values) (slot b) (1 - wish b) })
   denied = record {
     less = free-set-le (now .values) (slot b) (1 - wish b) (omega arith);
     moves = λ f t. absurd (true≢false (sym t ∙ f));
     stays = λ m d a agrees.
-        (refl, agrees-set (now .values) m (slot b) (1 - wish b) agrees (omega (arith, d (slot b), eqb-false (getD m (slot b) 0) (wish b) a, wish-small b)));
+        let other : getD m (slot b) 0 ≡ 1 - wish b = omega (arith, d (slot b), eqb-false (getD m (slot b) 0) (wish b) a, wish-small b) in
+        (refl, agrees-set (now .values) m (slot b) (1 - wish b) agrees other);
   }

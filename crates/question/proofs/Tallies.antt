@@ -1,9 +1,9 @@
 -- The set of the settings that hold, counted along the soft buffer.
-use mathlib.Core.Path.{_≡_, refl, sym, ap, _∙_, subst}
+use mathlib.Core.Path.{_≡_, sym, ap, _∙_, subst}
 use mathlib.Core.Logic.{_⊎_, inl, inr, ⊎-elim, _↔_, _≢_, Iff·trans}
-use mathlib.Core.Bool.{Bool, true, false, _&&_, _||_}
+use mathlib.Core.Bool.{Bool, false, _||_}
 use mathlib.Core.List.{List, _∷_}
-use Prim.Native.Nat.{ℕ, zero, suc, _+_, _≤_, _<_, min, zero-le}
+use Prim.Native.Nat.{ℕ, zero, suc, _+_, _≤_, _<_, zero-le}
 use native.Mathlib.Omega.{arith}
 use lib.Dec.{T, ltb, ltb→lt, lt→ltb}
 use lib.ListN.{length, getD, drop}
@@ -31,21 +31,30 @@ pub record Tallying (test : ℕ → Bool) (soft : List ℕ) (set : ℕ) (sofar :
   pub counts : (j : ℕ) → T (holds test soft j) ↔ (In j set ⊎ Later (verdicts test sofar (clauses (drop i soft))) n j)
 
 pub tallying-starts : (test : ℕ → Bool) (soft : List ℕ) (sofar : Bool) (n : ℕ) → sofar ≡ false → n ≡ 0 → Tallying test soft 0 sofar n 0
-tallying-starts test soft sofar n e z = rw (e, z) (record { upto = zero-le; counts = λ j. Iff·trans (and-iff (ltb j settingsMost) (passesAt test (settings soft) j)) (to j, from j) })
+tallying-starts test soft sofar n e z = rw (e, z) (record {
+  upto = zero-le;
+  counts = λ j. Iff·trans (and-iff (ltb j settingsMost) (passesAt test (settings soft) j)) (to j, from j);
+})
   where
     to : (j : ℕ) → T (ltb j settingsMost) × T (passesAt test (settings soft) j) → In j 0 ⊎ Later (verdicts test false (clauses soft)) 0 j
     to j h = inr (j, omega arith, ltb→lt j settingsMost (h .0), subst T (verdict-setting test soft j) (h .1))
 
-    from : (j : ℕ) → In j 0 ⊎ Later (verdicts test false (clauses soft)) 0 j → T (ltb j settingsMost) × T (passesAt test (settings soft) j)
+    from : (j : ℕ) → In j 0 ⊎ Later (verdicts test false (clauses soft)) 0 j
+        → T (ltb j settingsMost) × T (passesAt test (settings soft) j)
     from j (inl h) = absurd (none-in j h)
     from j (inr h) =
-        let e : h .0 ≡ j = omega (arith, h .1) in
-        (lt→ltb j settingsMost (h .2), subst T (ap (λ (k : ℕ). getD (verdicts test false (clauses soft)) k false) e ∙ sym (verdict-setting test soft j)) (h .3))
+        let e : h .0 ≡ j = omega (arith, h .1) in (
+          lt→ltb j settingsMost (h .2),
+          subst T (ap (λ (k : ℕ). getD (verdicts test false (clauses soft)) k false) e ∙ sym (verdict-setting test soft j)) (h .3),
+        )
 
 -- the settings counted and those to come, past the end of one
 past-end : (set set′ n j : ℕ) (sofar : Bool) (rest : List Bool) → Adds set sofar n set′
     → (In j set ⊎ Later (sofar ∷ rest) n j) ↔ (In j set′ ⊎ Later rest (next n) j)
-past-end set set′ n j sofar rest adds = (⊎-elim (λ h. inl (adds j .1 (inl h))) to, ⊎-elim (λ h. ⊎-elim inl (λ q. inr (0, omega arith, q .2, q .0)) (adds j .0 h)) from)
+past-end set set′ n j sofar rest adds = (
+  ⊎-elim (λ h. inl (adds j .1 (inl h))) to,
+  ⊎-elim (λ h. ⊎-elim inl (λ q. inr (0, omega arith, q .2, q .0)) (adds j .0 h)) from,
+)
   where
     to : Later (sofar ∷ rest) n j → In j set′ ⊎ Later rest (next n) j
     to (zero, e, l, t) = inl (adds j .1 (inr (t, omega arith, l)))
@@ -56,7 +65,8 @@ past-end set set′ n j sofar rest adds = (⊎-elim (λ h. inl (adds j .1 (inl h
 
 module _ (test : ℕ → Bool) (soft : List ℕ) (set : ℕ) (sofar : Bool) (n i : ℕ) (at : Tallying test soft set sofar n i) where
   -- the setting at hand ends
-  pub tallying-ends : i < length soft → getD soft i 0 ≡ 0 → (set′ n′ : ℕ) (next-sofar : Bool) → Adds set sofar n set′ → n′ ≡ next n → next-sofar ≡ false
+  pub tallying-ends : i < length soft → getD soft i 0 ≡ 0 → (set′ n′ : ℕ) (next-sofar : Bool) → Adds set sofar n set′ → n′ ≡ next n
+      → next-sofar ≡ false
       → Tallying test soft set′ next-sofar n′ (i + 1)
   tallying-ends l z set′ n′ next-sofar adds e f =
       rw (e, f) (record {
@@ -86,7 +96,8 @@ pub record Counting (values soft : List ℕ) (sure possible : ℕ) (chance : Cha
   pub trues : Tallying (isTrue values) soft sure (chance .sure) n i
   pub opens : Tallying (mayBe values) soft possible (chance .possible) n i
 
-pub standing-starts : (values soft : List ℕ) (chance : Chance) (n : ℕ) → chance ≡ nothingRead → n ≡ 0 → Counting values soft 0 0 chance n 0
+pub standing-starts : (values soft : List ℕ) (chance : Chance) (n : ℕ) → chance ≡ nothingRead → n ≡ 0
+    → Counting values soft 0 0 chance n 0
 standing-starts values soft chance n e z = record {
   trues = tallying-starts (isTrue values) soft (chance .sure) n (ap (λ (x : Chance). x .sure) e) z;
   opens = tallying-starts (mayBe values) soft (chance .possible) n (ap (λ (x : Chance). x .possible) e) z;
@@ -97,7 +108,8 @@ module _ (values soft : List ℕ) (sure possible : ℕ) (chance : Chance) (n i :
       → Adds sure (chance .sure) n sure′ → Adds possible (chance .possible) n possible′ → n′ ≡ next n → chance′ ≡ nothingRead
       → Counting values soft sure′ possible′ chance′ n′ (i + 1)
   standing-ends l z sure′ possible′ n′ chance′ a b e f = record {
-    trues = tallying-ends (isTrue values) soft sure (chance .sure) n i (at .trues) l z sure′ n′ (chance′ .sure) a e (ap (λ (x : Chance). x .sure) f);
+    trues = tallying-ends (isTrue values) soft sure (chance .sure) n i (at .trues) l z sure′ n′ (chance′ .sure) a e
+        (ap (λ (x : Chance). x .sure) f);
     opens = tallying-ends (mayBe values) soft possible (chance .possible) n i (at .opens) l z possible′ n′ (chance′ .possible) b e
         (ap (λ (x : Chance). x .possible) f);
   }
@@ -107,7 +119,8 @@ module _ (values soft : List ℕ) (sure possible : ℕ) (chance : Chance) (n i :
   standing-reads l z p s chance′ f =
       let g : chance′ ≡ looked chance (getD soft i 0) (getD values (slot (getD soft i 0)) 0) = rw (← s) f in
       record {
-        trues = tallying-reads (isTrue values) soft sure (chance .sure) n i (at .trues) l z (chance′ .sure) (ap (λ (x : Chance). x .sure) g);
+        trues = tallying-reads (isTrue values) soft sure (chance .sure) n i (at .trues) l z (chance′ .sure)
+            (ap (λ (x : Chance). x .sure) g);
         opens = tallying-reads (mayBe values) soft possible (chance .possible) n i (at .opens) l z (chance′ .possible)
             (ap (λ (x : Chance). x .possible) g);
       }

@@ -1,9 +1,9 @@
 -- Tests of literals: where more literals pass, more clauses and settings do; and what values so far tell of who agrees with them.
-use mathlib.Core.Path.{_≡_, sym, _∙_, subst}
+use mathlib.Core.Path.{sym, _∙_, subst}
 use mathlib.Core.Logic.{⊎-elim, by-cases}
-use mathlib.Core.Bool.{Bool, _&&_, _||_}
+use mathlib.Core.Bool.{Bool}
 use mathlib.Core.List.{List, [], _∷_}
-use Prim.Native.Nat.{ℕ, zero, suc, _≤_, _<_, suc-le-suc}
+use Prim.Native.Nat.{ℕ, zero, suc, _<_}
 use native.Mathlib.Nat.{not-suc-le-zero, le-of-suc-le-suc}
 use native.Mathlib.Decide.{decLt}
 use native.Mathlib.Omega.{arith}
@@ -11,7 +11,7 @@ use lib.Dec.{T, eqb, ltb, eqb→eq, eqb-refl, lt→ltb}
 use lib.ListN.{length, getD}
 use Rattle.sets.proofs.Deciding.{and-left, and-right, and-both, or-left, or-right, or-cases}
 use Rattle.setups.specs.Limits.{settingsMost}
-use Rattle.setups.specs.Clauses.{clauses, wish}
+use Rattle.setups.specs.Clauses.{wish}
 use Rattle.setups.specs.Setups.{settings}
 use Rattle.setups.proofs.Settling.{wish-small}
 use Rattle.question.specs.Tests.{slot, isTrue, mayBe, passes, allPass, passesAt, holds}

@@ -1,9 +1,9 @@
 -- Values by place: what a value that is set does to the free ones and to who agrees; the first and the last values of a search.
-use mathlib.Core.Path.{_≡_, refl, sym, ap, _∙_, subst}
+use mathlib.Core.Path.{_≡_, refl, sym, _∙_, subst}
 use mathlib.Core.Logic.{_≢_, by-cases}
 use mathlib.Core.List.{List, [], _∷_}
 use Prim.Native.Nat.{ℕ, zero, suc, _+_, _%_, _≤_, _<_, zero-le, suc-le-suc}
-use native.Mathlib.Nat.{not-suc-le-zero, le-of-suc-le-suc, zero-lt-suc}
+use native.Mathlib.Nat.{not-suc-le-zero, zero-lt-suc}
 use native.Mathlib.Decide.{ℕ-discrete}
 use native.Mathlib.Omega.{arith}
 use borrow.Author.Tests.{le-ltb}
@@ -58,13 +58,18 @@ pub opening-starts : (values : List ℕ) → length values ≡ 64 → ((j : ℕ)
 opening-starts values n z = record { size = n; opens = λ j h. (zero-le, z j) }
 
 pub opening-more : (values : List ℕ) (i : ℕ) → Opening values i → i < 64 → Opening (set values i 2) (i + 1)
-opening-more values i at l = record { size = length-set values i 2 ∙ at .size; opens = λ j h. by-cases (ℕ-discrete j i) (here j h) (there j h) }
+opening-more values i at l = record {
+  size = length-set values i 2 ∙ at .size;
+  opens = λ j h. by-cases (ℕ-discrete j i) (here j h) (there j h);
+}
   where
     inside : i < length values
     inside = omega (arith, at .size)
 
     here : (j : ℕ) → getD (set values i 2) j 0 < 2 → j ≡ i → (i + 1 ≤ j) × (getD (set values i 2) j 0 ≡ 0)
-    here j h e = absurd (let b : ⊥ = omega (arith, getD-set-same values i 2 0 inside, subst (λ (k : ℕ). getD (set values i 2) k 0 < 2) e h) in b)
+    here j h e =
+        let free = getD-set-same values i 2 0 inside in
+        absurd (let b : ⊥ = omega (arith, free, subst (λ (k : ℕ). getD (set values i 2) k 0 < 2) e h) in b)
 
     there : (j : ℕ) → getD (set values i 2) j 0 < 2 → j ≢ i → (i + 1 ≤ j) × (getD (set values i 2) j 0 ≡ 0)
     there j h n =
@@ -87,7 +92,12 @@ completing-starts values n = record { upto = zero-le; size = n; done = λ j l. a
 module _ (values model : List ℕ) (i : ℕ) (at : Completing values model i) (l : i < 64) where
   -- the value at i is 0 or 1
   pub completing-skips : getD model i 0 < 2 → Completing values model (i + 1)
-  completing-skips h = record { upto = omega arith; size = at .size; done = λ j k. by-cases (ℕ-discrete j i) (λ e. rw e h) (λ n. at .done j (omega arith)); agrees = at .agrees }
+  completing-skips h = record {
+    upto = omega arith;
+    size = at .size;
+    done = λ j k. by-cases (ℕ-discrete j i) (λ e. rw e h) (λ n. at .done j (omega arith));
+    agrees = at .agrees;
+  }
 
   -- the value at i is free
   pub completing-sets : 2 ≤ getD model i 0 → Completing values (set model i 0) (i + 1)
@@ -96,11 +106,18 @@ module _ (values model : List ℕ) (i : ℕ) (at : Completing values model i) (l
     size = length-set model i 0 ∙ at .size;
     done = λ j k. by-cases (ℕ-discrete j i) (λ e. rw e (omega (arith, getD-set-same model i 0 0 (omega (arith, at .size)))))
         (λ n. rw (getD-set-other model i j 0 0 n) (at .done j (omega arith)));
-    agrees = λ j k. getD-set-other model i j 0 0 (λ e. let b : ⊥ = omega (arith, at .agrees j k, subst (λ (x : ℕ). 2 ≤ getD model x 0) (sym e) h) in b) ∙ at .agrees j k;
+    agrees = λ j k.
+        let same = at .agrees j k in
+        let other : j ≢ i = λ e. let b : ⊥ = omega (arith, same, subst (λ (x : ℕ). 2 ≤ getD model x 0) (sym e) h) in b in
+        getD-set-other model i j 0 0 other ∙ same;
   }
 
 pub completing-done : (values model : List ℕ) (i : ℕ) → Completing values model i → 64 ≤ i → Completes values model
-completing-done values model i at l = record { size = at .size; decided = all-decided model (λ j k. at .done j (omega (arith, at .size))); agrees = at .agrees }
+completing-done values model i at l = record {
+  size = at .size;
+  decided = all-decided model (λ j k. at .done j (omega (arith, at .size)));
+  agrees = at .agrees;
+}
 
 -- ---- the lowest free variable
 

@@ -27,7 +27,8 @@ verdict-clause test (c ∷ cs) zero = refl
 verdict-clause test (c ∷ cs) (suc i) = verdict-clause test cs i
 
 -- the setting at place i
-pub verdict-setting : (test : ℕ → Bool) (soft : List ℕ) (i : ℕ) → passesAt test (settings soft) i ≡ getD (verdicts test false (clauses soft)) i false
+pub verdict-setting : (test : ℕ → Bool) (soft : List ℕ) (i : ℕ)
+    → passesAt test (settings soft) i ≡ getD (verdicts test false (clauses soft)) i false
 verdict-setting test soft i = go (clauses soft) i
   where
     go : (cs : List (List ℕ)) (i : ℕ) → passesAt test (apiece cs) i ≡ getD (verdicts test false cs) i false
@@ -56,7 +57,8 @@ clauses-push : (b : ℕ) (bytes : List ℕ) → b ≢ 0 → clauses (b ∷ bytes
 clauses-push zero bytes n = absurd (n refl)
 clauses-push (suc b) bytes n = refl
 
-pub verdicts-push : (test : ℕ → Bool) (sofar : Bool) (b : ℕ) (cs : List (List ℕ)) → verdicts test sofar (push b cs) ≡ verdicts test (sofar || test b) cs
+pub verdicts-push : (test : ℕ → Bool) (sofar : Bool) (b : ℕ) (cs : List (List ℕ))
+    → verdicts test sofar (push b cs) ≡ verdicts test (sofar || test b) cs
 verdicts-push test sofar b [] = refl
 verdicts-push test sofar b (c ∷ cs) = ap (λ (q : Bool). q ∷ verdicts test false cs) (sym (or-assoc sofar (test b) (passes test c)))
 
@@ -66,8 +68,11 @@ module _ (test : ℕ → Bool) (sofar : Bool) (bytes : List ℕ) (i : ℕ) where
   verdicts-past l = rw (drop-of-length-le bytes l)
 
   -- a 0 ends the first clause
-  pub verdicts-end : i < length bytes → getD bytes i 0 ≡ 0 → verdicts test sofar (clauses (drop i bytes)) ≡ sofar ∷ verdicts test false (clauses (drop (i + 1) bytes))
-  verdicts-end l z = rw (add-one, drop-cons bytes i 0 l, z) (ap (λ (q : Bool). q ∷ verdicts test false (clauses (drop (suc i) bytes))) (or-false sofar))
+  pub verdicts-end : i < length bytes → getD bytes i 0 ≡ 0
+      → verdicts test sofar (clauses (drop i bytes)) ≡ sofar ∷ verdicts test false (clauses (drop (i + 1) bytes))
+  verdicts-end l z =
+      rw (add-one, drop-cons bytes i 0 l, z)
+      (ap (λ (q : Bool). q ∷ verdicts test false (clauses (drop (suc i) bytes))) (or-false sofar))
 
   -- any other byte is one more literal of it
   pub verdicts-literal : i < length bytes → getD bytes i 0 ≢ 0
@@ -79,7 +84,8 @@ module _ (test : ℕ → Bool) (sofar : Bool) (bytes : List ℕ) (i : ℕ) where
 -- ---- the first clause
 
 -- where the first clause does not pass, no literal of it that is read already does
-pub first-fails : (test : ℕ → Bool) (sofar : Bool) (cs : List (List ℕ)) → 0 < length cs → ¬ T (getD (verdicts test sofar cs) 0 false) → sofar ≡ false
+pub first-fails : (test : ℕ → Bool) (sofar : Bool) (cs : List (List ℕ)) → 0 < length cs → ¬ T (getD (verdicts test sofar cs) 0 false)
+    → sofar ≡ false
 first-fails test sofar [] l n = absurd (not-suc-le-zero l)
 first-fails test true (c ∷ cs) l n = absurd (n tt)
 first-fails test false (c ∷ cs) l n = refl

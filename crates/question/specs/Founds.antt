@@ -1,5 +1,5 @@
 -- Kept settings and found sets, over any test of the settings.
-use mathlib.Core.Path.{_≡_}
+use mathlib.Core.Path.{_≡_, refl}
 use mathlib.Core.Bool.{Bool, false}
 use mathlib.Core.List.{List}
 use Prim.Native.Nat.{ℕ}
@@ -16,6 +16,10 @@ Each S test = (i : ℕ) → In i S → T (test i)
 -- one setting of the set passes
 abbrev pub One : ℕ → (ℕ → Bool) → Type 0
 One S test = (i : ℕ) × In i S × T (test i)
+
+-- of 6, the settings at the places 1 and 2, the one at place 2 is in 5
+example-one : One 6 (has 5)
+example-one = (2, refl, tt)
 
 -- each kept setting passes, and of each found set one setting
 pub record Fit (kept : ℕ) (found : List ℕ) (test : ℕ → Bool) : Type 0 where

@@ -1,9 +1,9 @@
 -- What settling, choosing and searching promise.
 use mathlib.Core.Path.{_≡_}
-use mathlib.Core.Bool.{Bool, true, false}
-use mathlib.Core.List.{List}
+use mathlib.Core.Bool.{true, false}
+use mathlib.Core.List.{List, [], _∷_}
 use Prim.Native.Nat.{ℕ, _+_, _≤_, _<_}
-use lib.Dec.{T}
+use lib.Dec.{T, lit<}
 use lib.ListN.{getD}
 use Rattle.sets.specs.Sets.{Within}
 use Rattle.sets.specs.Tests.{has}
@@ -41,6 +41,10 @@ pub record Done (kept sure : ℕ) (values hard found : List ℕ) : Type 0 where
 abbrev pub Chosen : List ℕ → Choice → Type 0
 Chosen values (Literal b) = 1 < getD values (slot b) 0
 Chosen values Nothing = Decided values
+
+-- variable 1 is 0, variable 2 is free: −2 may be chosen
+example-chosen : Chosen (0 ∷ 2 ∷ []) (Literal 130)
+example-chosen = lit< tt
 
 -- What a search from the values tells: either every assignment that agrees with those of r is an answer, or, where it fails, none
 -- that agrees with the values is one.

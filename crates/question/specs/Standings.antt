@@ -1,6 +1,6 @@
 -- How clauses and settings stand under values of which some are free.
-use mathlib.Core.Path.{_≡_}
-use mathlib.Core.Bool.{false, _||_}
+use mathlib.Core.Path.{_≡_, refl}
+use mathlib.Core.Bool.{true, false, _||_}
 use mathlib.Core.List.{List}
 use Prim.Native.Nat.{ℕ}
 use lib.Dec.{eqb, ltb}
@@ -17,6 +17,10 @@ nothingRead = record { sure = false; possible = false }
 -- the clause so far with one literal more, whose variable has the value x
 abbrev pub looked : Chance → ℕ → ℕ → Chance
 looked chance b x = record { sure = chance .sure || eqb x (wish b); possible = chance .possible || (eqb x (wish b) || ltb 1 x) }
+
+-- a free literal, 2: the clause may become true
+example-looked : looked nothingRead 2 2 ≡ record { sure = false; possible = true }
+example-looked = refl
 
 -- `sure` is the set of the settings that are true so far, `possible` of those that are true so far or may become so
 pub record Stands (values soft : List ℕ) (r : Standing) : Type 0 where

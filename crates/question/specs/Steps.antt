@@ -1,7 +1,7 @@
 -- What every rule that forces values promises: no answer is lost.
-use mathlib.Core.Path.{_≡_}
+use mathlib.Core.Path.{_≡_, refl}
 use mathlib.Core.Bool.{Bool, true, false}
-use mathlib.Core.List.{List}
+use mathlib.Core.List.{List, [], _∷_}
 use Prim.Native.Nat.{ℕ, _≤_, _<_}
 use lib.ListN.{getD}
 use lib.Dec.{T}
@@ -27,6 +27,10 @@ abbrev pub Sees : List ℕ → Seen → Bool → Type 0
 Sees m AllFalse t = t ≡ false
 Sees m (OneFree b) t = t ≡ isTrue m b
 Sees m Enough t = Unit {0}
+
+-- one free literal, 2: the clause is true under 0, 1
+example-sees : Sees (0 ∷ 1 ∷ []) (OneFree 2) true
+example-sees = refl
 
 -- its one free literal is free
 abbrev pub Fresh : List ℕ → Seen → Type 0

@@ -47,6 +47,12 @@ passesAt test (setting ∷ rest) (suc i) = passesAt test rest i
 abbrev pub holds : (ℕ → Bool) → List ℕ → ℕ → Bool
 holds test soft i = ltb i settingsMost && passesAt test (settings soft) i
 
+-- soft (1), (2): under the same values the first setting does not hold, and the second may
+example-holds :
+    (holds (isTrue (0 ∷ 2 ∷ [])) (1 ∷ 0 ∷ 2 ∷ 0 ∷ []) 0 ≡ false) × (holds (isTrue (0 ∷ 2 ∷ [])) (1 ∷ 0 ∷ 2 ∷ 0 ∷ []) 1 ≡ false)
+    × (holds (mayBe (0 ∷ 2 ∷ [])) (1 ∷ 0 ∷ 2 ∷ 0 ∷ []) 1 ≡ true)
+example-holds = (refl, refl, refl)
+
 -- no setting of the set holds
 abbrev pub Broken : ℕ → (ℕ → Bool) → List ℕ → Type 0
 Broken given test soft = (i : ℕ) → In i given → ¬ T (holds test soft i)

@@ -1,8 +1,10 @@
 -- Values by place, of which some are free, and the assignments that agree with them.
-use mathlib.Core.Path.{_≡_}
-use mathlib.Core.List.{List}
-use Prim.Native.Nat.{ℕ, _≤_, _<_}
+use mathlib.Core.Path.{_≡_, refl}
+use mathlib.Core.List.{List, [], _∷_}
+use Prim.Native.Nat.{ℕ, zero, suc, _≤_, _<_}
+use native.Mathlib.Omega.{arith}
 use lib.ListN.{length, getD}
+use Rattle.setups.specs.Limits.{variablesMost}
 
 -- no value is free
 abbrev pub Decided : List ℕ → Type 0
@@ -12,12 +14,18 @@ Decided m = (i : ℕ) → getD m i 0 < 2
 abbrev pub Agrees : List ℕ → List ℕ → Type 0
 Agrees values m = (i : ℕ) → getD values i 0 < 2 → getD m i 0 ≡ getD values i 0
 
--- at most the first n places are free, and all others are 0
+-- variable 1 is free, variable 2 is 0: the assignment 1, 0 agrees
+example-agrees : Agrees (2 ∷ 0 ∷ []) (1 ∷ 0 ∷ [])
+example-agrees zero h = absurd (let b : ⊥ = omega arith in b)
+example-agrees (suc zero) h = refl
+example-agrees (suc (suc i)) h = refl
+
+-- the first n places are free, and what is not free is 0
 abbrev pub Opens : ℕ → List ℕ → Type 0
 Opens n values = (i : ℕ) → getD values i 0 < 2 → (n ≤ i) × (getD values i 0 ≡ 0)
 
 -- r agrees with the values and leaves none free
 pub record Completes (values r : List ℕ) : Type 0 where
-  pub size : length r ≡ 64
+  pub size : length r ≡ variablesMost
   pub decided : Decided r
   pub agrees : Agrees values r

@@ -4,6 +4,7 @@ use crate::selectors::Owed;
 use crate::selectors::after;
 use crate::selectors::first;
 use crate::selectors::owes;
+use crate::standing::Standing;
 use crate::values::FREE;
 use crate::values::Values;
 use numbers::VARIABLES_MOST;
@@ -63,25 +64,38 @@ fn look(before: Glance, literal: u8, value: u8) -> Glance {
     }
 }
 
-// A free literal of the first owed clause that is open and has a false literal, or else of the first that is open; or 0.
+// The literal that came first; 0 is none.
+fn earlier(literal: u8, later: u8) -> u8 {
+    if literal == 0 { later } else { literal }
+}
+
+// A free literal of a clause that has to be true and has no true literal; or 0.
+fn open_literal(due: bool, clause: Glance) -> u8 {
+    if !due {
+        return 0;
+    }
+    if clause.met {
+        return 0;
+    }
+    clause.free
+}
+
+// A literal of the first open clause that has a false literal, or else of the first open clause; or 0.
 // Clauses that nothing touches come last, so that variables of their own don't multiply the work of the others.
 fn pick(values: Values, owed: Owed, clauses: &[u8]) -> u8 {
-    let mut best: u8 = 0;
+    let mut untouched: u8 = 0;
     let mut clause = unseen();
     let mut selector = first();
     let mut i = 0;
     while i < clauses.len() {
         let byte = clauses[i];
         if byte == 0 {
-            if owes(owed, selector) {
-                if !clause.met {
-                    if clause.touched {
-                        return clause.free;
-                    }
-                    if best == 0 {
-                        best = clause.free;
-                    }
+            let open = open_literal(owes(owed, selector), clause);
+            if open != 0 {
+                if clause.touched {
+                    return open;
                 }
+                untouched = earlier(untouched, open);
             }
             clause = unseen();
             selector = after(selector);
@@ -91,7 +105,7 @@ fn pick(values: Values, owed: Owed, clauses: &[u8]) -> u8 {
         }
         i += 1;
     }
-    best
+    untouched
 }
 
 // The possible settings of the found set that has fewest, of those that no true setting meets; or none.
@@ -113,19 +127,24 @@ fn tightest(sure: Set, possible: Set, found: &[Set]) -> Set {
     best
 }
 
-// Kept settings first, then the found set with fewest open settings, then the hard clauses.
-fn propose(round: Round, hard: &[u8], soft: &[u8], found: &[Set]) -> u8 {
-    let standing = round.standing;
-    let values = round.values;
-    let open = round.kept & !standing.sure;
+// The settings to make true first: the kept ones that are open, or else those of the found set with fewest; none where all is met.
+fn aim(kept: Set, standing: Standing, found: &[Set]) -> Set {
+    let open = kept & !standing.sure;
     if open != EMPTY {
-        return pick(values, Owed::Only(open), soft);
+        return open;
     }
-    let fewest = tightest(standing.sure, standing.possible, found);
-    if fewest != EMPTY {
-        return pick(values, Owed::Only(fewest), soft);
+    tightest(standing.sure, standing.possible, found)
+}
+
+// A literal of a setting to make true, and where there is none, of a hard clause.
+fn propose(round: Round, hard: &[u8], soft: &[u8], found: &[Set]) -> u8 {
+    let values = round.values;
+    let standing = round.standing;
+    let wanted = aim(round.kept, standing, found);
+    if wanted == EMPTY {
+        return pick(values, Owed::Every, hard);
     }
-    pick(values, Owed::Every, hard)
+    pick(values, Owed::Only(wanted), soft)
 }
 
 // The lowest free variable, to be tried at 0.

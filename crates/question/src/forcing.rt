@@ -7,7 +7,6 @@ use crate::selectors::owes;
 use crate::values::Values;
 use crate::values::with_false;
 use crate::values::with_true;
-use numbers::Selector;
 use sets::Set;
 use setups::Seen;
 use setups::place;
@@ -88,8 +87,9 @@ pub fn force(earlier: Forced, owed: Owed, clauses: &[u8]) -> Forced
             seen = Seen::AllFalse;
             selector = after(selector);
         } else {
+            let values = forced.values;
             let at = place(byte);
-            seen = see(seen, byte, forced.values[at]);
+            seen = see(seen, byte, values[at]);
         }
         i += 1;
     }

@@ -6,6 +6,7 @@ use sets::within;
 ghost use mathlib.Core.Path.{_≡_};
 ghost use mathlib.Core.Bool.{true};
 ghost use mathlib.Core.Logic.{_↔_};
+ghost use Prim.Native.Nat.{_<_};
 ghost use Rattle.sets.specs.Tests.{has};
 ghost use Rattle.question.specs.Founds.{Fit, KeepsLast, Narrows};
 
@@ -15,13 +16,11 @@ pub struct Narrowed {
     pub kept: Set,
 }
 
-// The only setting left of a set is kept: without the lowest there is none.
+// The only setting that is left of a set is kept. It is the only one where the set without its lowest is empty.
 fn keep_last(kept: Set, left: Set) -> Set
+    requires { ⌜ 0 < left ⌝ }
     ensures { λ r. ⌜ KeepsLast kept left r ⌝ }
 {
-    if left == EMPTY {
-        return kept;
-    }
     if left & (left - 1) == EMPTY {
         return kept | left;
     }

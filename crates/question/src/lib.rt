@@ -25,7 +25,7 @@ pub enum Reply {
     No,
 }
 
-// Given-up settings are broken once, before the search; a set may name settings that there are not.
+// Kept and given-up settings that there are not count for nothing. The given-up ones are broken once, before the search.
 pub fn question(count: u32, hard: &[u8], soft: &[u8], kept: Set, given: Set, found: &[Set]) -> Reply
     requires { ⌜ Taken (setup count (now hard) (now soft)) ⌝ }
     ensures { λ r. ⌜ Says (setup count (now (hard .entry)) (now (soft .entry))) kept given (now (found .entry)) r ⌝ }

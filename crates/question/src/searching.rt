@@ -1,6 +1,7 @@
 // The search of the question: settle, and split on what the chooser says. It stops as soon as what is asked is met.
 use crate::choosing::Choice;
 use crate::choosing::choose;
+use crate::forcing::Forced;
 use crate::forcing::force;
 use crate::forcing::start;
 use crate::found::fits;
@@ -18,6 +19,8 @@ ghost use mathlib.Core.Path.{_≡_};
 ghost use mathlib.Core.Bool.{true};
 ghost use mathlib.Core.Logic.{_↔_};
 ghost use Rattle.question.specs.Tests.{isTrue, Asked};
+ghost use Rattle.question.specs.Selectors.{OwingBoth};
+ghost use Rattle.question.specs.Steps.{unmoved, Step};
 ghost use Rattle.question.specs.Searches.{failing, Settles, Done, Told};
 
 // The values and kept settings after each rule was put to use once; whether that made a difference; how the settings stand then.
@@ -51,32 +54,38 @@ fn failed(values: Values, kept: Set) -> Round
     }
 }
 
-// The kept settings, the hard clauses and the found sets, each once.
-fn one_round(values: Values, kept: Set, hard: &[u8], soft: &[u8], found: &[Set]) -> Round
-    ensures { λ r. ⌜ Settles kept (now (hard .entry)) (now (soft .entry)) (now (found .entry)) values r ⌝ }
+// The kept settings, then the hard clauses.
+fn force_both(values: Values, kept: Set, hard: &[u8], soft: &[u8]) -> Forced
+    ensures { λ r. ⌜ Step (λ m. OwingBoth kept (isTrue m) (now (hard .entry)) (now (soft .entry))) (unmoved values) r ⌝ }
 {
     let keeps = force(start(values), Owed::Only(kept), soft);
     if keeps.fails {
-        let now = keeps.values;
-        return failed(now, kept);
+        return keeps;
     }
-    let rules = force(keeps, Owed::Every, hard);
-    let now = rules.values;
-    if rules.fails {
-        return failed(now, kept);
+    force(keeps, Owed::Every, hard)
+}
+
+// Each rule once: the kept settings, the hard clauses, the found sets.
+fn one_round(values: Values, kept: Set, hard: &[u8], soft: &[u8], found: &[Set]) -> Round
+    ensures { λ r. ⌜ Settles kept (now (hard .entry)) (now (soft .entry)) (now (found .entry)) values r ⌝ }
+{
+    let forced = force_both(values, kept, hard, soft);
+    let changed = forced.values;
+    if forced.fails {
+        return failed(changed, kept);
     }
-    let standing = stand(now, soft);
+    let standing = stand(changed, soft);
     let narrowed = narrow(kept, standing.possible, found);
     if narrowed.fails {
-        return failed(now, kept);
+        return failed(changed, kept);
     }
     if narrowed.kept == kept {
         return Round {
             fails: false,
-            moved: rules.moved,
+            moved: forced.moved,
             kept,
             standing,
-            values: now,
+            values: changed,
         };
     }
     Round {
@@ -84,7 +93,7 @@ fn one_round(values: Values, kept: Set, hard: &[u8], soft: &[u8], found: &[Set])
         moved: true,
         kept: narrowed.kept,
         standing,
-        values: now,
+        values: changed,
     }
 }
 

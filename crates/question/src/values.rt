@@ -5,6 +5,7 @@ use setups::wish;
 ghost use mathlib.Core.Path.{_≡_};
 ghost use Prim.Native.Nat.{ℕ, _-_, _≤_, _<_};
 ghost use lib.ListN.{getD, set};
+ghost use Rattle.setups.specs.Limits.{variablesMost};
 ghost use Rattle.setups.specs.Clauses;
 ghost use Rattle.question.specs.Tests.{slot};
 ghost use Rattle.question.specs.Values.{Opens, Completes};
@@ -23,7 +24,7 @@ fn zeros() -> Values
 
 // The variables of a setup are free; no other place has a variable.
 pub fn opening(count: u32) -> Values
-    requires { ⌜ count ≤ 64 ⌝ }
+    requires { ⌜ count ≤ variablesMost ⌝ }
     ensures { λ r. ⌜ Opens count r ⌝ }
 {
     let mut values = zeros();

@@ -1,7 +1,6 @@
 -- `question` meets its contract: the search is over the settings that there are, and its model is one of the setup.
 use mathlib.Core.Path.{_≡_, _∙_, ap}
 use Prim.Native.Nat.{ℕ, _-_, _^_, min}
-use native.Mathlib.Omega.{arith}
 use borrow.Author.Needs.{needs}
 use Rattle.setups.specs.Setups.{setup, count}
 use Rattle.question.proofs.Answers.{given-below, no-start, no-model, yes-model}
@@ -47,7 +46,8 @@ returns-2 c =
     let give = c .before .before .before .before in
     let full = give .before .before in
     let enters = full .before .before .before .before .before in
-    no-model _ (enters .pre) _ (every full) _ _ _ _ (give .before .opening .ensures) _ (give .give-up .ensures) _ (c .before .seek .ensures) (c .if2 .taken)
+    no-model _ (enters .pre) _ (every full) _ _ _ _ (give .before .opening .ensures) _ (give .give-up .ensures) _
+    (c .before .seek .ensures) (c .if2 .taken)
 
 complete-requires : tie.Need-complete-requires
 complete-requires c κs = search needs
@@ -60,7 +60,8 @@ returns-3 c =
     let seek = c .before .before .before .before in
     let full = seek .before .before .before .before .before in
     let enters = full .before .before .before .before .before in
-    yes-model _ (enters .pre) _ (every full) _ (enters .args .given) _ _ _ (c .before .complete .ensures) _ (seek .seek .ensures) (c .before .before .before .if2 .left) _ (c .stand .ensures)
+    yes-model _ (enters .pre) _ (every full) _ (enters .args .given) _ _ _ (c .before .complete .ensures) _ (seek .seek .ensures)
+    (c .before .before .before .if2 .left) _ (c .stand .ensures)
 
 pub question-spec : {M : Type 1} → statement M
 question-spec =

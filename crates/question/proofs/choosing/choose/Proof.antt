@@ -1,5 +1,4 @@
 -- `choosing::choose` meets its contract: what is proposed is taken only where its variable is free.
-use mathlib.Core.Path.{sym}
 use borrow.Author.Needs.{needs}
 use Rattle.question.proofs.choosing.choose.Statement.{statement}
 use Rattle.question.proofs.choosing.choose.Tie as tie

@@ -30,7 +30,8 @@ add-t10 c = search needs
 returns : tie.Need-returns Inv-loop μ-loop
 returns c =
     let place = c .before .before in
-    lowest-found _ _ (place .before .before .before .loop .inv) (place .before .if1 .taken) _ (place .value-place .ensures) (c .before .if2 .taken)
+    lowest-found _ _ (place .before .before .before .loop .inv) (place .before .if1 .taken) _ (place .value-place .ensures)
+    (c .before .if2 .taken)
 
 add-t9 : tie.Need-add-t9 Inv-loop μ-loop
 add-t9 c = search needs
@@ -41,7 +42,8 @@ loop-less c = search needs
 loop-again : tie.Need-loop-again Inv-loop μ-loop
 loop-again c =
     let place = c .before .before in
-    lowest-next _ _ (place .before .before .before .loop .inv) (place .before .if1 .taken) _ (place .value-place .ensures) (c .before .if2 .left)
+    lowest-next _ _ (place .before .before .before .loop .inv) (place .before .if1 .taken) _ (place .value-place .ensures)
+    (c .before .if2 .left)
 
 returns-2 : tie.Need-returns-2 Inv-loop μ-loop
 returns-2 c = lowest-none _ _ (c .before .before .loop .inv) (c .if1 .left)

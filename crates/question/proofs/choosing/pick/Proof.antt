@@ -1,16 +1,15 @@
 -- `choosing::pick` reads and ends: it promises nothing of the literal.
 use Prim.Native.Nat.{_≤_, _-_}
-use native.Mathlib.Omega.{arith}
 use borrow.Author.Needs.{needs}
 use lib.ListN.{length}
 use Rattle.question.proofs.choosing.pick.Statement.{statement}
 use Rattle.question.proofs.choosing.pick.Tie as tie
 
 abbrev Inv-loop : tie.InvT-loop
-Inv-loop owed clauses values best₀ clause₀ selector₀ i₀ best clause selector i = i ≤ length clauses
+Inv-loop owed clauses values untouched₀ clause₀ selector₀ i₀ untouched clause selector i = i ≤ length clauses
 
 abbrev μ-loop : tie.MeasureT-loop
-μ-loop owed clauses values best₀ clause₀ selector₀ i₀ best clause selector i = length clauses - i
+μ-loop owed clauses values untouched₀ clause₀ selector₀ i₀ untouched clause selector i = length clauses - i
 
 unseen-requires : tie.Need-unseen-requires Inv-loop μ-loop
 unseen-requires c κs = search needs
@@ -27,8 +26,14 @@ shared-slice-read-byte c = search needs
 owes-requires : tie.Need-owes-requires Inv-loop μ-loop
 owes-requires c κs = search needs
 
+open-literal-requires : tie.Need-open-literal-requires Inv-loop μ-loop
+open-literal-requires c κs = search needs
+
 returns : tie.Need-returns Inv-loop μ-loop
 returns c = search needs
+
+earlier-requires : tie.Need-earlier-requires Inv-loop μ-loop
+earlier-requires c κs = search needs
 
 unseen-requires-2 : tie.Need-unseen-requires-2 Inv-loop μ-loop
 unseen-requires-2 c κs = search needs
@@ -68,7 +73,9 @@ pick-spec =
     loop-holds
     shared-slice-read-byte
     owes-requires
+    open-literal-requires
     returns
+    earlier-requires
     unseen-requires-2
     after-requires
     place-requires

@@ -1,6 +1,5 @@
 -- `choosing::tightest` reads and ends: it promises nothing of the set.
 use Prim.Native.Nat.{_≤_, _-_}
-use native.Mathlib.Omega.{arith}
 use borrow.Author.Needs.{needs}
 use lib.ListN.{length}
 use Rattle.question.proofs.choosing.tightest.Statement.{statement}

@@ -1,7 +1,6 @@
 -- `forcing::end_clause` meets its contract, by cases on the clause that ends.
-use mathlib.Core.Path.{_∙_}
 use borrow.Author.Needs.{needs}
-use borrow.Author.Tests.{not-true, not-false}
+use borrow.Author.Tests.{not-false}
 use Rattle.sets.proofs.Deciding.{T-true}
 use Rattle.question.proofs.StepLaws.{step-none, ends-false, ends-one}
 use Rattle.question.proofs.forcing.end_clause.Statement.{statement}
@@ -33,7 +32,8 @@ returns-3 c =
     let enters = c .before .before .before .before .before in
     let a = enters .before .args in
     rw (c .with-true .ensures)
-    (ends-one (a .earlier) (a .due) (a .seen) _ (T-true (a .due) .1 (not-false (a .due) (enters .if1 .left))) (c .before .before .seen .given .1) (enters .before .pre .1))
+    (ends-one (a .earlier) (a .due) (a .seen) _ (T-true (a .due) .1 (not-false (a .due) (enters .if1 .left)))
+    (c .before .before .seen .given .1) (enters .before .pre .1))
 
 returns-4 : tie.Need-returns-4
 returns-4 c = step-none _ _ (c .before .before .before .before .pre .0)

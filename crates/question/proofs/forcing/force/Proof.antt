@@ -1,7 +1,7 @@
 -- `forcing::force` meets its contract: the clauses that are passed have been put to use, and those from here on are still owed.
 use mathlib.Core.Path.{ap, _∙_}
 use mathlib.Core.Logic.{⊎-elim}
-use Prim.Native.Nat.{ℕ, _-_}
+use Prim.Native.Nat.{_-_}
 use native.Mathlib.Omega.{arith}
 use borrow.Author.Needs.{needs}
 use lib.ListN.{length}
@@ -43,8 +43,8 @@ after-requires c κs = search needs
 place-requires : tie.Need-place-requires Inv-loop μ-loop
 place-requires c κs = search needs
 
-element-copy-out-see : tie.Need-element-copy-out-see Inv-loop μ-loop
-element-copy-out-see c = omega (arith, c .place .ensures)
+array-read-see : tie.Need-array-read-see Inv-loop μ-loop
+array-read-see c = omega (arith, c .place .ensures)
 
 see-requires : tie.Need-see-requires Inv-loop μ-loop
 see-requires c κs = search needs
@@ -64,7 +64,7 @@ loop-again c =
     (λ w. rw (w .5, w .6)
     (forcing-ends _ _ _ _ _ _ _ (at .inv) l (w .0 .taken) _ (w .1 .ensures) _ (w .2 .ensures) (w .3 .left) _
     (ap (λ (x : Selector). x .0) (w .7) ∙ w .4 .ensures)))
-    (λ w. rw (w .4, w .6) (forcing-reads _ _ _ _ _ _ _ (at .inv) l (w .0 .left) _ (w .1 .ensures) _ (w .5 ∙ w .3 .ensures)))
+    (λ w. rw (w .4, w .6) (forcing-reads _ _ _ _ _ _ _ (at .inv) l (w .0 .left) _ (w .2 .ensures) _ (w .5 ∙ w .3 .ensures)))
     (c .if1 .came)
 
 returns-2 : tie.Need-returns-2 Inv-loop μ-loop
@@ -84,7 +84,7 @@ force-spec =
     returns
     after-requires
     place-requires
-    element-copy-out-see
+    array-read-see
     see-requires
     add-i
     loop-less

@@ -1,7 +1,6 @@
 -- `forcing::give_up` meets its contract: the literals of given-up settings that are passed are false.
 use mathlib.Core.Path.{ap, _∙_}
 use mathlib.Core.Logic.{⊎-elim}
-use mathlib.Core.Bool.{false}
 use Prim.Native.Nat.{_-_, _<_, _^_}
 use native.Mathlib.Omega.{arith}
 use borrow.Author.Needs.{needs}
@@ -46,7 +45,8 @@ returns c =
     let enters = start .before .before in
     let small : enters .args .given < 2 ^ 32 = omega (arith, enters .fits .given) in
     rw (← start .start .ensures)
-    (giving-denies _ _ _ _ _ _ (inside .before .loop .inv) (inside .loop-test .taken) (c .before .before .before .before .if1 .left) small (enters .pre)
+    (giving-denies _ _ _ _ _ _ (inside .before .loop .inv) (inside .loop-test .taken) (c .before .before .before .before .if1 .left)
+    small (enters .pre)
     (c .before .before .before .chosen .ensures .0 (c .before .before .if2 .taken)) _ (c .before .deny .ensures))
 
 add-i : tie.Need-add-i Inv-loop μ-loop

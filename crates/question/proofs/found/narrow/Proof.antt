@@ -2,6 +2,7 @@
 use mathlib.Core.Path.{sym, _∙_}
 use mathlib.Core.Bool.{true≢false}
 use Prim.Native.Nat.{_-_}
+use native.Mathlib.Omega.{arith}
 use borrow.Author.Needs.{needs}
 use borrow.Author.Tests.{not-true}
 use lib.ListN.{length}
@@ -36,7 +37,7 @@ returns-2 c =
     narrows-none _ _ _ _ _ (inside .before .loop .inv) (inside .loop-test .taken) (c .if2 .taken)
 
 keep-last-requires : tie.Need-keep-last-requires Inv-loop μ-loop
-keep-last-requires c κs = search needs
+keep-last-requires c κs = omega arith
 
 add-i : tie.Need-add-i Inv-loop μ-loop
 add-i c = search needs

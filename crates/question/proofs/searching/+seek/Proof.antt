@@ -1,5 +1,5 @@
 -- `searching::seek` meets its contract, in a cycle with itself: each side of a split has fewer free values.
-use mathlib.Core.Path.{_≡_, sym, ap, _∙_, subst}
+use mathlib.Core.Path.{sym, ap, _∙_, subst}
 use mathlib.Core.Bool.{true≢false}
 use Prim.Native.Nat.{ℕ, _-_, _<_}
 use native.Mathlib.Nat.{le-of-suc-le-suc}
@@ -103,7 +103,8 @@ seek-returns-3 : (t : ℕ) → seek-lts.Need-returns-3 (told t) (seek-at t) seek
 seek-returns-3 t c =
     let split = c .before .before .before in
     let settle = split .before .before .before .before .before .before .before .before .before .before in
-    told-second _ _ _ _ _ _ (settle .settle .ensures) _ _ _ (rw (split .before .with-true .ensures) at (split .seek .ensures)) (c .before .before .if3 .taken)
+    told-second _ _ _ _ _ _ (settle .settle .ensures) _ _ _ (rw (split .before .with-true .ensures) at (split .seek .ensures))
+    (c .before .before .if3 .taken)
     (rw (c .before .with-false .ensures) at (c .seek2 .ensures))
 
 seek-returns-4 : (t : ℕ) → seek-lts.Need-returns-4 (told t) (seek-at t) seek.Post

@@ -14,7 +14,10 @@ met-requires c κs = search needs
 
 returns : tie.Need-returns
 returns c = (
-  (λ e. record { rules = T-true _ .1 (sym (c .met .ensures) ∙ e); fit = c .before .before .before .fits2 .ensures .0 (c .before .before .if1 .taken) }),
+  (λ e. record {
+    rules = T-true _ .1 (sym (c .met .ensures) ∙ e);
+    fit = c .before .before .before .fits2 .ensures .0 (c .before .before .if1 .taken);
+  }),
   λ done. c .met .ensures ∙ T-true _ .0 (done .rules),
 )
 

@@ -1,6 +1,6 @@
 -- `searching::settle` meets its contract: whatever settles with the first round settles with the last.
 use mathlib.Core.List.{List}
-use Prim.Native.Nat.{ℕ, _<_, _^_}
+use Prim.Native.Nat.{ℕ}
 use native.Mathlib.Omega.{arith}
 use borrow.Author.Needs.{needs}
 use Rattle.question.specs.Searches.{Settles}
@@ -9,7 +9,8 @@ use Rattle.question.proofs.searching.settle.Statement.{statement}
 use Rattle.question.proofs.searching.settle.Tie as tie
 
 abbrev Inv-loop : tie.InvT-loop
-Inv-loop kept hard soft found last₀ last = (values : List ℕ) → Settles kept hard soft found values last₀ → Settles kept hard soft found values last
+Inv-loop kept hard soft found last₀ last =
+    (values : List ℕ) → Settles kept hard soft found values last₀ → Settles kept hard soft found values last
 
 abbrev μ-loop : tie.MeasureT-loop
 μ-loop kept hard soft found last₀ last = left last
@@ -25,7 +26,8 @@ one-round-requires-2 c κs = search needs
 
 loop-less : tie.Need-loop-less Inv-loop μ-loop
 loop-less c =
-    left-less _ _ _ (c .before .before .before .loop .last) _ (c .before .before .loop-test .taken) (omega (arith, c .one-round2 .ok)) (c .one-round2 .ensures)
+    left-less _ _ _ (c .before .before .before .loop .last) _ (c .before .before .loop-test .taken) (omega (arith, c .one-round2 .ok))
+    (c .one-round2 .ensures)
 
 loop-again : tie.Need-loop-again Inv-loop μ-loop
 loop-again c = λ values s. settles-on _ _ _ _ values _ _ (c .before .before .before .loop .inv values s) (c .one-round2 .ensures)

@@ -10,7 +10,9 @@ returns : tie.Need-returns
 returns c = let a = c .before .before .args in adds-beyond (a .set) (a .selector .0) (a .counts) (omega arith)
 
 returns-2 : tie.Need-returns-2
-returns-2 c = let a = c .before .before .before .args in adds-nothing (a .set) (a .selector .0) (a .counts) (not-true (a .counts) (c .if2 .taken))
+returns-2 c =
+    let a = c .before .before .before .args in
+    adds-nothing (a .set) (a .selector .0) (a .counts) (not-true (a .counts) (c .if2 .taken))
 
 setting-of-requires : tie.Need-setting-of-requires
 setting-of-requires c κs = search needs
@@ -21,7 +23,8 @@ with-requires c κs = search needs
 returns-3 : tie.Need-returns-3
 returns-3 c =
     let a = c .before .before .before .before .before .args in
-    adds-one (a .set) (a .selector .0) _ _ (a .counts) (not-false (a .counts) (c .before .before .if2 .left)) (omega arith) (c .before .setting-of .ensures) (c .with .ensures)
+    adds-one (a .set) (a .selector .0) _ _ (a .counts) (not-false (a .counts) (c .before .before .if2 .left)) (omega arith)
+    (c .before .setting-of .ensures) (c .with .ensures)
 
 pub added-spec : {M : Type 1} → statement M
 added-spec = tie.close (tie.spec returns returns-2 setting-of-requires with-requires returns-3)

@@ -24,5 +24,3 @@ returns-2 c =
 
 pub chosen-spec : {M : Type 1} → statement M
 chosen-spec = tie.close (tie.spec returns setting-of-requires has-requires returns-2)
-
--- t2058

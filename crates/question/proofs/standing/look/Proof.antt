@@ -17,7 +17,8 @@ returns c =
 returns-2 : tie.Need-returns-2
 returns-2 c =
     let a = c .before .before .before .args in
-    sym (looked-free (a .chance) (a .literal) (a .value) (λ e. c .before .if1 .left (e ∙ sym (c .before .before .wish .ensures))) (c .if2 .taken))
+    sym (looked-free (a .chance) (a .literal) (a .value) (λ e. c .before .if1 .left (e ∙ sym (c .before .before .wish .ensures)))
+    (c .if2 .taken))
 
 returns-3 : tie.Need-returns-3
 returns-3 c =

@@ -29,7 +29,8 @@ returns : tie.Need-returns Inv-loop μ-loop
 returns c =
     let inside = c .before .before .before .before in
     let at = inside .before .loop in
-    meeting-fails _ _ (at .chance) (at .i) (at .inv) (inside .loop-test .taken) (c .before .before .if1 .taken) (not-true (at .chance .sure) (c .if2 .taken))
+    meeting-fails _ _ (at .chance) (at .i) (at .inv) (inside .loop-test .taken) (c .before .before .if1 .taken)
+    (not-true (at .chance .sure) (c .if2 .taken))
 
 unread-requires-2 : tie.Need-unread-requires-2 Inv-loop μ-loop
 unread-requires-2 c κs = search needs
@@ -55,7 +56,8 @@ loop-again c =
     let at = inside .before .loop in
     let l = inside .loop-test .taken in
     ⊎-elim
-    (λ w. meeting-ends _ _ (at .chance) (at .i) (at .inv) l (w .0 .taken) (not-false (at .chance .sure) (w .2 .left)) _ (w .4 ∙ w .3 .ensures))
+    (λ w.
+    meeting-ends _ _ (at .chance) (at .i) (at .inv) l (w .0 .taken) (not-false (at .chance .sure) (w .2 .left)) _ (w .4 ∙ w .3 .ensures))
     (λ w. meeting-reads _ _ (at .chance) (at .i) (at .inv) l (w .0 .left) _ (w .1 .ensures) _ (w .3 ∙ w .2 .ensures))
     (c .if1 .came)
 
