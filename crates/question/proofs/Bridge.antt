@@ -12,7 +12,7 @@ use Rattle.sets.specs.Lists.{Listed}
 use Rattle.sets.proofs.Deciding.{and-iff}
 use Rattle.sets.proofs.Lists.{listed-place}
 use Rattle.setups.specs.Limits.{settingsMost}
-use Rattle.setups.specs.Clauses.{LiteralOf, clauses, place, wish, literalTrue, clauseTrue, allTrue}
+use Rattle.setups.specs.Clauses.{clauses, LiteralOf, place, wish, literalTrue, clauseTrue, allTrue}
 use Rattle.setups.specs.Refusals.{noClauseByte, offends}
 use Rattle.setups.specs.Setups.{Setup, settings, count, SettingTrue}
 use Rattle.setups.specs.Taken.{Taken}

@@ -3,7 +3,7 @@ use mathlib.Core.Path.{_≡_, refl, sym, _∙_, subst}
 use mathlib.Core.Logic.{_≢_}
 use mathlib.Core.Bool.{Bool, true, false, cond, true≢false, false≢true}
 use mathlib.Core.List.{List}
-use Prim.Native.Nat.{ℕ, _+_, _-_, _*_, _^_, _<_, min}
+use Prim.Native.Nat.{ℕ, _+_, _-_, _*_, _^_, _≤_, _<_, min}
 use native.Mathlib.Omega.{arith}
 use lib.Dec.{T, ltb}
 use Rattle.sets.specs.Sets.{In, Within}
@@ -70,16 +70,23 @@ asked-step kept hard soft found values forced small step =
 -- ---- one round
 
 module _ (kept : ℕ) (hard soft found values : List ℕ) where
-  -- from a step that fails
-  pub settles-stuck : (forced : Forced) → Step (λ m. Asked kept hard soft found (isTrue m)) (unmoved values) forced → forced .fails ≡ true
-      → Settles kept hard soft found values (failing (forced .values) kept)
-  settles-stuck forced step fails = record {
-    less = step .less;
+  -- it fails, and there is no answer
+  settles-failing : (w : List ℕ) → freeCount w ≤ freeCount values
+      → ((m : List ℕ) → Decided m → Asked kept hard soft found (isTrue m) → ¬ Agrees values m)
+      → Settles kept hard soft found values (failing w kept)
+  settles-failing w less none = record {
+    less = less;
     grows = within-self kept;
     moves = λ e. absurd (false≢true e);
     stands = λ e. absurd (true≢false e);
-    stays = λ m d asked agrees. absurd (true≢false (sym fails ∙ step .stays m d asked agrees .0));
+    stays = λ m d asked agrees. absurd (none m d asked agrees);
   }
+
+  -- a pass fails
+  pub settles-stuck : (forced : Forced) → Step (λ m. Asked kept hard soft found (isTrue m)) (unmoved values) forced → forced .fails ≡ true
+      → Settles kept hard soft found values (failing (forced .values) kept)
+  settles-stuck forced step fails =
+      settles-failing (forced .values) (step .less) (λ m d asked agrees. true≢false (sym fails ∙ step .stays m d asked agrees .0))
 
   module _ (forced : Forced) (step : Step (λ m. Asked kept hard soft found (isTrue m)) (unmoved values) forced)
       (standing : Standing) (stands : Stands (forced .values) soft standing) where
@@ -101,17 +108,11 @@ module _ (kept : ℕ) (hard soft found values : List ℕ) where
 
       -- some found set has no setting left
       pub settles-dead : narrowed .fails ≡ true → Settles kept hard soft found values (failing (forced .values) kept)
-      settles-dead fails = record {
-        less = step .less;
-        grows = within-self kept;
-        moves = λ e. absurd (false≢true e);
-        stands = λ e. absurd (true≢false e);
-        stays = λ m d asked agrees. absurd (true≢false (sym fails ∙ narrowed-for m d asked agrees .0));
-      }
+      settles-dead fails =
+          settles-failing (forced .values) (step .less) (λ m d asked agrees. true≢false (sym fails ∙ narrowed-for m d asked agrees .0))
 
       -- no more is kept
-      pub settles-same : narrowed .kept ≡ kept
-          → Settles kept hard soft found values (ends (forced .moved) kept)
+      pub settles-same : narrowed .kept ≡ kept → Settles kept hard soft found values (ends (forced .moved) kept)
       settles-same e = record {
         less = step .less;
         grows = within-self kept;
@@ -121,8 +122,7 @@ module _ (kept : ℕ) (hard soft found values : List ℕ) where
       }
 
       -- more is kept
-      pub settles-wider : narrowed .kept ≢ kept
-          → Settles kept hard soft found values (ends true (narrowed .kept))
+      pub settles-wider : narrowed .kept ≢ kept → Settles kept hard soft found values (ends true (narrowed .kept))
       settles-wider n = record {
         less = step .less;
         grows = narrows .grows;
@@ -169,7 +169,9 @@ pub left-less : (hard soft found : List ℕ) (r s : Round) → r .moved ≡ true
     → Settles (r .kept) hard soft found (r .values) s → left s < left r
 left-less hard soft found r s t small next = rw t (go (s .moved) refl)
   where
-    go : (q : Bool) → s .moved ≡ q
-        → 2 * (freeCount (s .values) + (2 ^ settingsMost - s .kept)) + cond q 1 0 < 2 * (freeCount (r .values) + (2 ^ settingsMost - r .kept)) + 1
+    sum : Round → ℕ
+    sum x = freeCount (x .values) + (2 ^ settingsMost - x .kept)
+
+    go : (q : Bool) → s .moved ≡ q → 2 * sum s + cond q 1 0 < 2 * sum r + 1
     go true e = omega (arith, next .moves e, within-le (r .kept) (s .kept) (next .grows))
     go false e = omega (arith, next .less, within-le (r .kept) (s .kept) (next .grows))

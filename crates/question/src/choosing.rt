@@ -14,6 +14,7 @@ use sets::EMPTY;
 use sets::SETTINGS_MOST;
 use sets::Set;
 use sets::meets;
+use sets::size;
 use setups::place;
 use setups::wish;
 ghost use Rattle.question.specs.Searches.{Chosen};
@@ -116,9 +117,9 @@ fn tightest(sure: Set, possible: Set, found: &[Set]) -> Set {
     while i < found.len() {
         if !meets(found[i], sure) {
             let open = found[i] & possible;
-            let size = u32::count_ones(open);
-            if size < fewest {
-                fewest = size;
+            let left = size(open);
+            if left < fewest {
+                fewest = left;
                 best = open;
             }
         }

@@ -32,6 +32,9 @@ mul-open c = search needs
 shared-slice-read-open : tie.Need-shared-slice-read-open Inv-loop μ-loop
 shared-slice-read-open c = search needs
 
+size-requires : tie.Need-size-requires Inv-loop μ-loop
+size-requires c κs = search needs
+
 add-i : tie.Need-add-i Inv-loop μ-loop
 add-i c = search needs
 
@@ -57,6 +60,7 @@ tightest-spec =
     meets-requires
     mul-open
     shared-slice-read-open
+    size-requires
     add-i
     loop-less
     loop-again

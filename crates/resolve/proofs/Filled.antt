@@ -1,0 +1,105 @@
+-- How many places Read, List and Turn have filled, and how many settings List takes.
+use mathlib.Core.Path.{_≡_, refl, sym, ap, _∙_, subst}
+use mathlib.Core.Bool.{_||_, not}
+use mathlib.Core.List.{List}
+use Prim.Native.Nat.{ℕ, _≤_, zero-le}
+use native.Mathlib.Omega.{arith}
+use borrow.Author.Tests.{eqb-true, eqb-false, ltb-false}
+use lib.Dec.{ltb, leb, eqb}
+use lib.ListN.{length, drop, length-append}
+use Rattle.sets.proofs.Deciding.{cond-case}
+use Rattle.setups.specs.Limits.{variablesMost, hardBytesMost, softBytesMost, setsMost, settingsMost}
+use Rattle.setups.specs.Setups.{settings}
+use Rattle.setups.specs.Refusals.{finished, check, noClauseByte, offends, ended, long}
+use Rattle.setups.specs.declared.Refusal.the-variants.{Vars, Size, Work, Literal, Tail, Long, Softs}
+use Rattle.setups.specs.List.{ListResult, givenOut, listRefusal, Lists}
+use Rattle.setups.specs.Turn.{turnRefusal, Turns}
+use Rattle.setups.proofs.Refusals.{refused-number, check-passed}
+use Rattle.list.specs.Answer.{answered as listAnswered}
+use Rattle.list.specs.declared.Listing.{Listing}
+use Rattle.list.specs.declared.Listing.the-variants.{Listed}
+use Rattle.turn.specs.Turning.{answered as turnAnswered}
+use Rattle.turn.specs.declared.Turning.{Turning}
+use Rattle.turn.specs.declared.Turning.the-variants.{Listed as TurnListed}
+use Rattle.frames.specs.declared.reading.Reading.{Reading}
+use Rattle.frames.specs.declared.reading.Reading.the-variants.{Read}
+use Rattle.frames.specs.Texts.{judge, hardOf, softOf}
+use Rattle.frames.specs.Read.{ReadResult, readingOf, readRefusal, filledWith, readResult}
+
+-- the places that a result has filled are places of its list
+abbrev Fits : ListResult → Type 0
+Fits r = r .filled ≤ length (r .list)
+
+given-fits : (all list scratch : List ℕ) → Fits (givenOut all list scratch)
+given-fits all list scratch =
+    cond-case Fits (ltb (length list) (length all)) (λ e. zero-le) (λ e. omega (arith, length-append all (drop (length all) list)))
+
+pub turn-fits : (n : ℕ) (given list scratch : List ℕ) (r : ListResult) → Turns n given list scratch r → r .filled ≤ length (r .list)
+turn-fits n given list scratch r p =
+    subst Fits (sym (p .says)) (cond-case Fits (eqb (turnRefusal n given (length list) (length scratch)) 0) (λ e. given-fits (p .turned) list scratch) (λ e. zero-le))
+
+pub list-fits : (n : ℕ) (hard soft list scratch : List ℕ) (r : ListResult) → Lists n hard soft list scratch r → r .filled ≤ length (r .list)
+list-fits n hard soft list scratch r p =
+    subst Fits (sym (p .says))
+    (cond-case Fits (eqb (listRefusal n hard soft (length list) (length scratch)) 0)
+    (λ e. cond-case Fits (p .met) (λ m. given-fits (p .ways) list scratch) (λ m. zero-le)) (λ e. zero-le))
+
+-- List has taken a setup that it lists the ways out of
+few : (n : ℕ) (hard soft : List ℕ) (room scratchRoom : ℕ) → listRefusal n hard soft room scratchRoom ≡ 0 → length (settings soft) ≤ settingsMost
+few n hard soft room scratchRoom e =
+    let softs = check (ltb settingsMost (length (settings soft))) Softs 0 in
+    let longs = check (long hard || long soft) Long softs in
+    let tails = check (not (ended hard) || not (ended soft)) Tail longs in
+    let literals = check (offends (noClauseByte n) hard || offends (noClauseByte n) soft) Literal tails in
+    let work = check (leb scratchRoom room) Work literals in
+    let sizes = ltb hardBytesMost (length hard) || (ltb softBytesMost (length soft) || ltb setsMost room) in
+    let a = check-passed (ltb variablesMost n) Vars (check sizes Size work) 0 (refused-number Vars) e in
+    let b = check-passed sizes Size work 0 (refused-number Size) (a .1) in
+    let d = check-passed (leb scratchRoom room) Work literals 0 (refused-number Work) (b .1) in
+    let f = check-passed (offends (noClauseByte n) hard || offends (noClauseByte n) soft) Literal tails 0 (refused-number Literal) (d .1) in
+    let g = check-passed (not (ended hard) || not (ended soft)) Tail longs 0 (refused-number Tail) (f .1) in
+    let h = check-passed (long hard || long soft) Long softs 0 (refused-number Long) (g .1) in
+    let k = check-passed (ltb settingsMost (length (settings soft))) Softs 0 0 (refused-number Softs) (h .1) in
+    ltb-false settingsMost (length (settings soft)) (k .0)
+
+pub list-few : (n : ℕ) (hard soft list scratch : List ℕ) (r : ListResult) → Lists n hard soft list scratch r → r .number ≡ finished
+    → length (settings soft) ≤ settingsMost
+list-few n hard soft list scratch r p done =
+    let refusal = listRefusal n hard soft (length list) (length scratch) in
+    cond-case (λ (x : ListResult). r ≡ x → length (settings soft) ≤ settingsMost) (eqb refusal 0)
+    (λ e q. few n hard soft (length list) (length scratch) (eqb-true refusal 0 e))
+    (λ e q. absurd (eqb-false refusal 0 e (sym (ap (λ (x : ListResult). x .number) q) ∙ done)))
+    (p .says)
+
+-- the places that Read has filled are places of its buffers
+abbrev ReadFits : ReadResult → Type 0
+ReadFits r = (r .hardFilled ≤ length (r .hard)) × (r .softFilled ≤ length (r .soft))
+
+filled-fits : (bytes buffer : List ℕ) → length bytes ≤ length (filledWith bytes buffer)
+filled-fits bytes buffer = omega (arith, length-append bytes (drop (length bytes) buffer))
+
+pub read-fits : (text hard soft : List ℕ) (r : ReadResult) → r ≡ readResult text hard soft → (r .hardFilled ≤ length (r .hard)) × (r .softFilled ≤ length (r .soft))
+unfolding readResult
+read-fits text hard soft r e =
+    subst ReadFits (sym e)
+    (cond-case ReadFits (eqb (readRefusal text (length hard) (length soft)) 0)
+    (λ q. (filled-fits (hardOf (judge text)) hard, filled-fits (softOf (judge text)) soft)) (λ q. (zero-le, zero-le)))
+
+-- ---- the same of an answer
+
+pub turn-places : (n : ℕ) (given list scratch : List ℕ) (answer : Turning) (list′ scratch′ : List ℕ) → Turns n given list scratch (turnAnswered answer list′ scratch′)
+    → (filled : ℕ) → answer ≡ TurnListed filled → filled ≤ length list′
+turn-places n given list scratch answer list′ scratch′ p filled e = turn-fits n given list scratch (turnAnswered (TurnListed filled) list′ scratch′) (rw e at p)
+
+module _ (n : ℕ) (hard soft list scratch : List ℕ) (answer : Listing) (list′ scratch′ : List ℕ) (p : Lists n hard soft list scratch (listAnswered answer list′ scratch′))
+    (filled : ℕ) (e : answer ≡ Listed filled) where
+  pub list-places : filled ≤ length list′
+  list-places = list-fits n hard soft list scratch (listAnswered (Listed filled) list′ scratch′) (rw e at p)
+
+  pub list-settings : length (settings soft) ≤ settingsMost
+  list-settings = list-few n hard soft list scratch (listAnswered (Listed filled) list′ scratch′) (rw e at p) refl
+
+pub read-places : (text hard soft : List ℕ) (answer : Reading) (hard′ soft′ : List ℕ) → readingOf answer hard′ soft′ ≡ readResult text hard soft
+    → (variables hardFilled softFilled : ℕ) → answer ≡ Read variables hardFilled softFilled → (hardFilled ≤ length hard′) × (softFilled ≤ length soft′)
+read-places text hard soft answer hard′ soft′ p variables hardFilled softFilled e =
+    read-fits text hard soft (readingOf (Read variables hardFilled softFilled) hard′ soft′) (rw e at p)

@@ -1,0 +1,10 @@
+-- The laws behind the program's function.
+
+-- the lines, stored one after the other
+pub mod Stored
+-- how many places a result has filled
+pub mod Filled
+-- from what Read, List and Turn answer to the lines
+pub mod Answering
+-- what the promise means
+pub mod Meaning

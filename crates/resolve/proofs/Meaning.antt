@@ -1,0 +1,167 @@
+-- What the promise means: where the outcome is 00 or 80, the 40 lines are exactly the ways out and the 50 lines exactly the clashes of
+-- the setup that the text says.
+use mathlib.Core.Path.{_≡_, refl, sym, ap, _∙_, subst}
+use mathlib.Core.Logic.{_⊎_, inl, inr, ⊎-elim, _≢_}
+use mathlib.Core.Bool.{Bool, true, false, true≢false, _||_, not, cond}
+use mathlib.Core.List.{List, [], _∷_}
+use Prim.Native.Nat.{ℕ, _≤_, zero-le}
+use native.Mathlib.Omega.{arith}
+use borrow.Author.Tests.{eqb-true, eqb-false}
+use lib.Dec.{ltb, leb, eqb}
+use lib.ListN.{length, drop, take}
+use lib.Seq.{take-at}
+use Rattle.sets.specs.Lists.{Exactly}
+use Rattle.sets.specs.Tests.{fine}
+use Rattle.sets.proofs.Deciding.{cond-case}
+use Rattle.setups.specs.declared.Refusal.{Refusal}
+use Rattle.setups.specs.declared.Refusal.the-variants.{Size, Work, Softs, TooMany, Frame, Room, List as NotAList}
+use Rattle.setups.specs.Limits.{hardBytesMost, softBytesMost, setsMost, settingsMost}
+use Rattle.setups.specs.Setups.{Setup, setup, count, Together, WayOut, Clash}
+use Rattle.setups.specs.Refusals.{numberOf, finished, unmet, check}
+use Rattle.setups.specs.List.{ListResult, without-list, givenOut, Lists}
+use Rattle.setups.specs.Turn.{turnRefusal, Turns}
+use Rattle.setups.proofs.Duality.{unmet-no-way-out, unmet-empty-clash}
+use Rattle.setups.proofs.Refusals.{refused-number, check-passed}
+use Rattle.list.proofs.Promise.{list-means}
+use Rattle.turn.proofs.Promise.{turn-clashes}
+use Rattle.frames.specs.Texts.{Text, good, bad, judge, isBad, countOf, hardOf, softOf}
+use Rattle.frames.specs.Read.{ReadResult, textMost, readRefusal, filledWith, readResult}
+use Rattle.resolve.specs.Lines.{answerLines, refusalLines}
+use Rattle.resolve.specs.Resolve.{places, scratchPlaces, reading, setupRead, listedSets, turnedLines, listedLines, Answers, Resolves}
+use Rattle.resolve.specs.Meaning.{Resolved, Found, Refused}
+
+-- ---- no refusal has the number of Unmet
+
+small : (test : Bool) (r : Refusal) (rest : ℕ) → numberOf r ≤ 12 → rest ≤ 12 → check test r rest ≤ 12
+small test r rest a b = cond-case (λ (x : ℕ). x ≤ 12) test (λ e. a) (λ e. b)
+
+turn-small : (n : ℕ) (given list scratch : List ℕ) (r : ListResult) → Turns n given list scratch r → r .number ≤ 12
+turn-small n given list scratch r p =
+    subst Small (sym (p .says))
+    (cond-case Small (eqb (turnRefusal n given (length list) (length scratch)) 0)
+    (λ e. cond-case Small (ltb (length list) (length (p .turned))) (λ k. omega arith) (λ k. zero-le))
+    (λ e. small (ltb settingsMost n) Softs _ (omega arith)
+    (small (ltb setsMost (length given) || ltb setsMost (length list)) Size _ (omega arith)
+    (small (leb (length scratch) (length list)) Work _ (omega arith)
+    (small (not (fine n given)) NotAList 0 (omega arith) zero-le)))))
+  where
+    Small : ListResult → Type 0
+    Small r = r .number ≤ 12
+
+-- ---- what Read has read
+
+said-good : (said : Text) → isBad said ≡ false → said ≡ good (countOf said) (hardOf said) (softOf said)
+said-good (good variables h s) e = refl
+said-good (bad n) e = absurd (true≢false e)
+
+-- the setup that the text says, which Read has filled its places with
+pub record Said (text : List ℕ) (r : ReadResult) : Type 0 where
+  pub variables : ℕ
+  pub hard : List ℕ
+  pub soft : List ℕ
+  pub said : judge text ≡ good variables hard soft
+  pub same : setupRead r ≡ setup variables hard soft
+
+module _ (text hard soft : List ℕ) where
+  refusal : ℕ
+  refusal = readRefusal text (length hard) (length soft)
+
+  taken : readRefusal text (length hard) (length soft) ≡ 0 → isBad (judge text) ≡ false
+  taken e =
+      let room = check (ltb (length hard) (length (hardOf (judge text))) || ltb (length soft) (length (softOf (judge text)))) Room 0 in
+      let frame = check-passed (ltb textMost (length text)) Size (check (isBad (judge text)) Frame room) 0 (refused-number Size) e in
+      check-passed (isBad (judge text)) Frame room 0 (refused-number Frame) (frame .1) .0
+
+  pub read-small : readResult text hard soft .number ≤ 12
+  unfolding readResult
+  read-small =
+      cond-case (λ (r : ReadResult). r .number ≤ 12) (eqb (readRefusal text (length hard) (length soft)) 0) (λ e. zero-le)
+      (λ e. small (ltb textMost (length text)) Size _ (omega arith)
+      (small (isBad (judge text)) Frame _ (omega arith)
+      (small (ltb (length hard) (length (hardOf (judge text))) || ltb (length soft) (length (softOf (judge text)))) Room 0 (omega arith) zero-le)))
+
+  pub read-said : readResult text hard soft .number ≡ finished → Said text (readResult text hard soft)
+  unfolding readResult
+  read-said =
+      cond-case (λ (r : ReadResult). r .number ≡ finished → Said text r) (eqb (readRefusal text (length hard) (length soft)) 0)
+      (λ e done. record {
+        variables = countOf (judge text);
+        hard = hardOf (judge text);
+        soft = softOf (judge text);
+        said = said-good (judge text) (taken (eqb-true (readRefusal text (length hard) (length soft)) 0 e));
+        same = rw (take-at (hardOf (judge text)) (drop (length (hardOf (judge text))) hard) (length (hardOf (judge text))) refl, take-at (softOf (judge text)) (drop (length (softOf (judge text))) soft) (length (softOf (judge text))) refl);
+      })
+      (λ e done. absurd (eqb-false (readRefusal text (length hard) (length soft)) 0 e done))
+
+-- ---- the lines that answer a setup
+
+-- with the outcome 00 or 80 they resolve it, else they are a refusal's
+abbrev Ended : Setup → List ℕ → Type 0
+Ended g lines = ((outcome : ℕ) × ((outcome ≡ finished) ⊎ (outcome ≡ unmet)) × Resolved g outcome lines) ⊎ Refused lines
+
+-- under Unmet there is no way out, and the empty set is the only clash
+unmet-resolved : (g : Setup) → ¬ Together g 0 → Resolved g unmet (answerLines unmet [] (0 ∷ []))
+unmet-resolved g none = record {
+  ways = [];
+  clashes = 0 ∷ [];
+  says = refl;
+  ways-out = record { rising = tt; exact = λ S. ((λ h. absurd h), λ w. absurd (unmet-no-way-out g none S w)) };
+  all-clashes = record {
+    rising = ((λ R h. absurd h), tt);
+    exact = λ C. (⊎-elim (unmet-empty-clash g none C .1) (λ h. absurd h), λ c. inl (unmet-empty-clash g none C .0 c));
+  };
+}
+
+module _ (g : Setup) (lines : List ℕ) (p : Answers g lines) where
+  after-turn : p .found .number ≡ finished → lines ≡ turnedLines (listedSets (p .found)) (p .turned) → Ended g lines
+  after-turn done =
+      cond-case (λ (x : List ℕ). lines ≡ x → Ended g lines) (eqb (p .turned .number) finished)
+      (λ e q. inl (
+        finished,
+        inl refl,
+        record {
+          ways = listedSets (p .found);
+          clashes = listedSets (p .turned);
+          says = q;
+          ways-out = list-means (g .variables) (g .hard) (g .soft) (places setsMost) (places scratchPlaces) (p .found) (p .lists) .listed done .ways;
+          all-clashes = turn-clashes (g .variables) (g .hard) (g .soft) (places setsMost) (places scratchPlaces) (p .found) (p .lists) done (places setsMost) (p .found .scratch) (p .turned) (p .turns) (eqb-true (p .turned .number) finished e);
+        },
+      ))
+      (λ e q.
+      let most = turn-small (count g) (listedSets (p .found)) (places setsMost) (p .found .scratch) (p .turned) (p .turns) in
+      inr (record {
+        number = p .turned .number;
+        not-finished = eqb-false (p .turned .number) finished e;
+        not-unmet = λ u. let z : ⊥ = omega (arith, most, u) in z;
+        says = q;
+      }))
+
+  pub answers-mean : Ended g lines
+  answers-mean =
+      cond-case (λ (x : List ℕ). lines ≡ x → Ended g lines) (eqb (p .found .number) finished) (λ e q. after-turn (eqb-true (p .found .number) finished e) q)
+      (λ e. cond-case (λ (x : List ℕ). lines ≡ x → Ended g lines) (eqb (p .found .number) unmet)
+      (λ u q.
+      let none = list-means (g .variables) (g .hard) (g .soft) (places setsMost) (places scratchPlaces) (p .found) (p .lists) .unmet .0 (eqb-true (p .found .number) unmet u) .1 in
+      inl (unmet, inr refl, subst (Resolved g unmet) (sym q) (unmet-resolved g none)))
+      (λ u q. inr (record { number = p .found .number; not-finished = eqb-false (p .found .number) finished e; not-unmet = eqb-false (p .found .number) unmet u; says = q })))
+      (p .says)
+
+-- ---- the theorem
+
+-- whatever is put out for a text either resolves the setup that the text says, with the outcome 00 or 80, or is a refusal's last line
+pub resolves-means : (text lines : List ℕ) → Resolves text lines → Found text lines ⊎ Refused lines
+resolves-means text lines p =
+    cond-case (λ (x : List ℕ). lines ≡ x → Found text lines ⊎ Refused lines) (eqb (reading text .number) finished)
+    (λ e q.
+    let s = read-said text (places hardBytesMost) (places softBytesMost) (eqb-true (reading text .number) finished e) in
+    let ended : Ended (setup (s .variables) (s .hard) (s .soft)) lines = subst (λ (g : Setup). Ended g lines) (s .same) (subst (Ended (setupRead (reading text))) (sym q) (answers-mean (setupRead (reading text)) (p .answer) (p .answers))) in
+    ⊎-elim (λ h. inl (record { variables = s .variables; hard = s .hard; soft = s .soft; said = s .said; outcome = h .0; ends = h .1; resolved = h .2 })) (λ r. inr r) ended)
+    (λ e q.
+    let most = read-small text (places hardBytesMost) (places softBytesMost) in
+    inr (record {
+      number = reading text .number;
+      not-finished = eqb-false (reading text .number) finished e;
+      not-unmet = λ u. let z : ⊥ = omega (arith, most, u) in z;
+      says = q;
+    }))
+    (p .says)
