@@ -1,5 +1,5 @@
 -- From what Read, List and Turn answer to the lines that are put out.
-use mathlib.Core.Path.{_≡_, refl, sym, ap, _∙_, subst}
+use mathlib.Core.Path.{_≡_, refl, ap, subst}
 use mathlib.Core.Bool.{false, cond}
 use mathlib.Core.List.{List, [], _∷_}
 use Prim.Native.Nat.{ℕ}
@@ -8,8 +8,8 @@ use lib.Dec.{eqb}
 use lib.ListN.{length, take}
 use Rattle.sets.proofs.Turning.{turn-exists}
 use Rattle.setups.specs.declared.Refusal.{Refusal}
-use Rattle.setups.specs.Limits.{hardBytesMost, softBytesMost, setsMost}
-use Rattle.setups.specs.Setups.{Setup, setup, count}
+use Rattle.setups.specs.Limits.{setsMost}
+use Rattle.setups.specs.Setups.{setup, count}
 use Rattle.setups.specs.Refusals.{numberOf, finished, unmet}
 use Rattle.setups.specs.Tests.{together}
 use Rattle.setups.specs.List.{ListResult, without-list, givenOut, listRefusal, listed, Lists}
@@ -27,7 +27,7 @@ use Rattle.frames.specs.declared.reading.Reading.{Reading}
 use Rattle.frames.specs.declared.reading.Reading.the-variants.{Read, Refused as ReadRefused}
 use Rattle.frames.specs.Read.{ReadResult, readingOf}
 use Rattle.resolve.specs.Lines.{answerLines, refusalLines}
-use Rattle.resolve.specs.Resolve.{places, scratchPlaces, reading, setupRead, listedSets, turnedLines, listedLines, AnswersTurn, Answers, Resolves}
+use Rattle.resolve.specs.Resolve.{places, scratchPlaces, reading, setupRead, listedSets, listedLines, AnswersTurn, Answers, Resolves}
 
 -- ---- List and Turn have a result, whatever they are given
 
@@ -70,9 +70,6 @@ module _ (n : ℕ) (ways scratch : List ℕ) (answer : Turning) (list′ scratch
 
 module _ (n : ℕ) (hard soft : List ℕ) (answer : Listing) (list′ scratch′ : List ℕ)
     (p : Lists n hard soft (places setsMost) (places scratchPlaces) (listAnswered answer list′ scratch′)) where
-  g : Setup
-  g = setup n hard soft
-
   -- where List lists nothing, Turn's result is asked for all the same, and not used
   without : (found : ListResult) → Lists n hard soft (places setsMost) (places scratchPlaces) found → (lines : List ℕ)
       → ((turned : ListResult) → lines ≡ listedLines found turned) → Answers (setup n hard soft) lines

@@ -8,3 +8,5 @@ pub mod Filled
 pub mod Answering
 -- what the promise means
 pub mod Meaning
+-- no second output
+pub mod Only

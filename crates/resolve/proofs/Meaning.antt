@@ -1,33 +1,32 @@
 -- What the promise means: where the outcome is 00 or 80, the 40 lines are exactly the ways out and the 50 lines exactly the clashes of
 -- the setup that the text says.
-use mathlib.Core.Path.{_≡_, refl, sym, ap, _∙_, subst}
+use mathlib.Core.Path.{_≡_, refl, sym, subst}
 use mathlib.Core.Logic.{_⊎_, inl, inr, ⊎-elim, _≢_}
-use mathlib.Core.Bool.{Bool, true, false, true≢false, _||_, not, cond}
+use mathlib.Core.Bool.{Bool, true, false, true≢false, _||_, not}
 use mathlib.Core.List.{List, [], _∷_}
 use Prim.Native.Nat.{ℕ, _≤_, zero-le}
 use native.Mathlib.Omega.{arith}
 use borrow.Author.Tests.{eqb-true, eqb-false}
 use lib.Dec.{ltb, leb, eqb}
-use lib.ListN.{length, drop, take}
+use lib.ListN.{length, drop}
 use lib.Seq.{take-at}
-use Rattle.sets.specs.Lists.{Exactly}
 use Rattle.sets.specs.Tests.{fine}
 use Rattle.sets.proofs.Deciding.{cond-case}
 use Rattle.setups.specs.declared.Refusal.{Refusal}
-use Rattle.setups.specs.declared.Refusal.the-variants.{Size, Work, Softs, TooMany, Frame, Room, List as NotAList}
+use Rattle.setups.specs.declared.Refusal.the-variants.{Size, Work, Softs, Frame, Room, List as NotAList}
 use Rattle.setups.specs.Limits.{hardBytesMost, softBytesMost, setsMost, settingsMost}
-use Rattle.setups.specs.Setups.{Setup, setup, count, Together, WayOut, Clash}
+use Rattle.setups.specs.Setups.{Setup, setup, count, Together}
 use Rattle.setups.specs.Refusals.{numberOf, finished, unmet, check}
-use Rattle.setups.specs.List.{ListResult, without-list, givenOut, Lists}
+use Rattle.setups.specs.List.{ListResult}
 use Rattle.setups.specs.Turn.{turnRefusal, Turns}
 use Rattle.setups.proofs.Duality.{unmet-no-way-out, unmet-empty-clash}
 use Rattle.setups.proofs.Refusals.{refused-number, check-passed}
 use Rattle.list.proofs.Promise.{list-means}
 use Rattle.turn.proofs.Promise.{turn-clashes}
 use Rattle.frames.specs.Texts.{Text, good, bad, judge, isBad, countOf, hardOf, softOf}
-use Rattle.frames.specs.Read.{ReadResult, textMost, readRefusal, filledWith, readResult}
-use Rattle.resolve.specs.Lines.{answerLines, refusalLines}
-use Rattle.resolve.specs.Resolve.{places, scratchPlaces, reading, setupRead, listedSets, turnedLines, listedLines, Answers, Resolves}
+use Rattle.frames.specs.Read.{ReadResult, textMost, readRefusal, readResult}
+use Rattle.resolve.specs.Lines.{answerLines}
+use Rattle.resolve.specs.Resolve.{places, scratchPlaces, reading, setupRead, listedSets, turnedLines, Answers, Resolves}
 use Rattle.resolve.specs.Meaning.{Resolved, Found, Refused}
 
 -- ---- no refusal has the number of Unmet
@@ -63,9 +62,6 @@ pub record Said (text : List ℕ) (r : ReadResult) : Type 0 where
   pub same : setupRead r ≡ setup variables hard soft
 
 module _ (text hard soft : List ℕ) where
-  refusal : ℕ
-  refusal = readRefusal text (length hard) (length soft)
-
   taken : readRefusal text (length hard) (length soft) ≡ 0 → isBad (judge text) ≡ false
   taken e =
       let room = check (ltb (length hard) (length (hardOf (judge text))) || ltb (length soft) (length (softOf (judge text)))) Room 0 in

@@ -39,6 +39,10 @@ answerLines outcome ways clashes =
 abbrev pub refusalLines : ℕ → List ℕ
 refusalLines number = answerLines number [] []
 
+-- how long the lines of two full lists are: 11 bytes a set, and 13 for the last line
+abbrev pub outputMost : ℕ
+outputMost = 22541
+
 -- the lines are stored from the output's first place on, `filled` bytes, and the places beyond them stay as they were
 pub record Puts (lines output : List ℕ) (filled : ℕ) (after : List ℕ) : Type 0 where
   pub count : filled ≡ length lines

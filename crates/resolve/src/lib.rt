@@ -15,12 +15,12 @@ use setups::SOFT_BYTES_MOST;
 use setups::refusal_number;
 use setups::settings_count;
 use turn::Turning;
-ghost use mathlib.Core.Path.{_≡_};
 ghost use Prim.Native.Nat.{_≤_};
 ghost use lib.ListN.{length};
-ghost use Rattle.setups.specs.Limits.{softBytesMost, setsMost};
+ghost use Rattle.setups.specs.Limits.{setsMost};
 ghost use Rattle.setups.specs.Setups.{setup};
-ghost use Rattle.resolve.specs.Resolve.{PutsOut, AnswersTurn, Answers, Resolves, scratchPlaces};
+ghost use Rattle.resolve.specs.Lines.{outputMost};
+ghost use Rattle.resolve.specs.Resolve.{PutsOut, AnswersTurn, Answers, Resolves};
 
 // How many bytes come out at the most: two full lists of lines, and the last line.
 pub const OUTPUT_MOST: usize = 22_541;
@@ -30,7 +30,7 @@ const SCRATCH_PLACES: usize = SETS_MOST + 1;
 
 // The ways out are turned into the clashes, and both are put out.
 fn put_turned(settings: u32, ways: &[Set], scratch: &mut [Set], output: &mut [u8]) -> usize
-    requires { ⌜ (length (now ways) ≤ setsMost) × (22541 ≤ length (now output)) ⌝ }
+    requires { ⌜ (length (now ways) ≤ setsMost) × (outputMost ≤ length (now output)) ⌝ }
     ensures { λ r. ⌜ PutsOut (AnswersTurn settings (now (ways .entry)) (now (scratch .entry))) (now (output .entry)) r (now (output .exit)) ⌝ }
 {
     let mut clashes = [EMPTY; SETS_MOST];
@@ -42,7 +42,7 @@ fn put_turned(settings: u32, ways: &[Set], scratch: &mut [Set], output: &mut [u8
 
 // The setup that was read is resolved.
 fn put_resolved(count: u32, hard: &[u8], soft: &[u8], output: &mut [u8]) -> usize
-    requires { ⌜ 22541 ≤ length (now output) ⌝ }
+    requires { ⌜ outputMost ≤ length (now output) ⌝ }
     ensures { λ r. ⌜ PutsOut (Answers (setup count (now (hard .entry)) (now (soft .entry)))) (now (output .entry)) r (now (output .exit)) ⌝ }
 {
     let mut ways = [EMPTY; SETS_MOST];

@@ -6,12 +6,12 @@ use sets::Set;
 use setups::UNMET;
 ghost use mathlib.Core.Path.{_≡_};
 ghost use mathlib.Core.List.{[], _∷_};
-ghost use Prim.Native.Nat.{_+_, _*_, _<_, _≤_};
+ghost use Prim.Native.Nat.{_+_, _<_, _≤_};
 ghost use lib.ListN.{length};
 ghost use lib.Seq.{sets};
 ghost use Rattle.setups.specs.Refusals.{unmet};
 ghost use Rattle.frames.specs.Digits.{digits, bytesOf};
-ghost use Rattle.resolve.specs.Lines.{setLine, setLines, lastLine, answerLines, refusalLines, Puts};
+ghost use Rattle.resolve.specs.Lines.{setLine, setLines, lastLine, answerLines, refusalLines, outputMost, Puts};
 
 // A line's first byte tells its kind: a way out, a clash, the last line.
 const WAY_OUT: u8 = 0x40;
@@ -89,7 +89,7 @@ pub fn put_answer(output: &mut [u8], outcome: u8, ways: &[Set], clashes: &[Set])
 
 // A refusal puts out only the last line, with both counts 0.
 pub fn put_refusal(output: &mut [u8], number: u8) -> usize
-    requires { ⌜ 24 ≤ length (now output) ⌝ }
+    requires { ⌜ outputMost ≤ length (now output) ⌝ }
     ensures { λ r. ⌜ Puts (refusalLines number) (now (output .entry)) r (now (output .exit)) ⌝ }
 {
     put_last(output, 0, number, 0, 0);
@@ -98,7 +98,7 @@ pub fn put_refusal(output: &mut [u8], number: u8) -> usize
 
 // Under Unmet the empty set is the only clash.
 pub fn put_unmet(output: &mut [u8]) -> usize
-    requires { ⌜ 24 ≤ length (now output) ⌝ }
+    requires { ⌜ outputMost ≤ length (now output) ⌝ }
     ensures { λ r. ⌜ Puts (answerLines unmet [] (0 ∷ [])) (now (output .entry)) r (now (output .exit)) ⌝ }
 {
     put_line(output, 0, CLASH, EMPTY);

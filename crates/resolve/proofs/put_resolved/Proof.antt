@@ -1,9 +1,7 @@
 -- `put_resolved` meets its contract.
-use mathlib.Core.Path.{_≡_, sym}
+use mathlib.Core.Path.{sym}
 use mathlib.Core.List.{[], _∷_}
-use Prim.Native.Nat.{_≤_}
 use native.Mathlib.Omega.{arith}
-use lib.ListN.{length, take}
 use lib.Seq.{length-take-le}
 use Rattle.setups.specs.Limits.{setsMost}
 use Rattle.setups.specs.Refusals.{unmet}

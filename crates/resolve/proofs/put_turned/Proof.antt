@@ -1,8 +1,7 @@
 -- `put_turned` meets its contract.
-use mathlib.Core.Path.{_≡_, sym}
-use Prim.Native.Nat.{_≤_}
+use mathlib.Core.Path.{sym}
 use native.Mathlib.Omega.{arith}
-use lib.ListN.{length, take}
+use lib.ListN.{take}
 use lib.Seq.{length-take-le}
 use Rattle.setups.specs.Limits.{setsMost}
 use Rattle.setups.specs.Refusals.{finished}

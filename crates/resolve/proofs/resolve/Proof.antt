@@ -1,7 +1,5 @@
 -- `resolve` meets its contract.
-use mathlib.Core.Path.{_≡_, sym}
-use Prim.Native.Nat.{_≤_}
-use lib.ListN.{length}
+use mathlib.Core.Path.{sym}
 use lib.Seq.{length-take-le}
 use Rattle.setups.specs.Limits.{hardBytesMost, softBytesMost}
 use Rattle.resolve.specs.Lines.{refusalLines}

@@ -1,8 +1,5 @@
 -- `lines::put_answer` meets its contract: the ways out, the clashes and the last line, one after the other.
-use mathlib.Core.Path.{_≡_}
-use Prim.Native.Nat.{_+_, _*_, _≤_}
 use native.Mathlib.Omega.{arith}
-use lib.ListN.{length}
 use Rattle.resolve.proofs.Stored.{lines-length, answer-length, answer-stored}
 use borrow.Author.Needs.{needs}
 use Rattle.resolve.proofs.lines.put_answer.Statement.{statement}

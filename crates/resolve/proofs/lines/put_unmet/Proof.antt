@@ -18,7 +18,7 @@ same-length : tie.Need-same-length
 same-length c = search needs
 
 returns : tie.Need-returns
-returns c = record { count = refl; fits = c .before .before .before .before .before .before .before .before .before .pre; stored = c .before .before .put-last .ensures ∙ rw (c .before .before .before .before .before .before .put-line .ensures) }
+returns c = record { count = refl; fits = omega (arith, c .before .before .before .before .before .before .before .before .before .pre); stored = c .before .before .put-last .ensures ∙ rw (c .before .before .before .before .before .before .put-line .ensures) }
 
 pub put-unmet-spec : {M : Type 1} → statement M
 put-unmet-spec =

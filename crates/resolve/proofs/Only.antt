@@ -1,0 +1,45 @@
+-- No second output meets the promise.
+use mathlib.Core.Path.{_≡_, sym, ap, _∙_, subst}
+use mathlib.Core.Bool.{cond}
+use mathlib.Core.List.{List}
+use Prim.Native.Nat.{ℕ}
+use lib.Dec.{eqb}
+use lib.ListN.{length}
+use lib.Seq.{sets}
+use Rattle.sets.proofs.Turning.{turn-unique}
+use Rattle.setups.specs.Limits.{setsMost}
+use Rattle.setups.specs.Setups.{Setup, count}
+use Rattle.setups.specs.Refusals.{finished}
+use Rattle.setups.specs.List.{ListResult, without-list, givenOut}
+use Rattle.setups.specs.Turn.{turnRefusal, Turns}
+use Rattle.list.proofs.Promise.{result-only}
+use Rattle.resolve.specs.Lines.{refusalLines}
+use Rattle.resolve.specs.Resolve.{places, scratchPlaces, reading, setupRead, listedSets, listedLines, Answers, Resolves, PutsOut}
+
+turns-only : (n : ℕ) (given list scratch : List ℕ) (r s : ListResult) → Turns n given list scratch r → Turns n given list scratch s → r ≡ s
+turns-only n given list scratch r s p q =
+    let refusal = turnRefusal n given (length list) (length scratch) in
+    p .says ∙ ap (λ (turned : List ℕ). cond (eqb refusal 0) (givenOut turned list scratch) (without-list refusal list scratch))
+    (turn-unique n given (p .turned) (q .turned) (p .exact) (q .exact)) ∙ sym (q .says)
+
+answers-only : (g : Setup) (a b : List ℕ) → Answers g a → Answers g b → a ≡ b
+answers-only g a b p q =
+    let found : p .found ≡ q .found = result-only (g .variables) (g .hard) (g .soft) (places setsMost) (places scratchPlaces) (p .found) (q .found) (p .lists) (q .lists) in
+    let turns : Turns (count g) (listedSets (q .found)) (places setsMost) (q .found .scratch) (p .turned) =
+    subst (λ (r : ListResult). Turns (count g) (listedSets r) (places setsMost) (r .scratch) (p .turned)) found (p .turns) in
+    let turned = turns-only (count g) (listedSets (q .found)) (places setsMost) (q .found .scratch) (p .turned) (q .turned) turns (q .turns) in
+    p .says ∙ ap (λ (r : ListResult). listedLines r (p .turned)) found ∙ ap (listedLines (q .found)) turned ∙ sym (q .says)
+
+pub lines-only : (text a b : List ℕ) → Resolves text a → Resolves text b → a ≡ b
+lines-only text a b p q =
+    p .says
+    ∙ ap (λ (answer : List ℕ). cond (eqb (reading text .number) finished) answer (refusalLines (reading text .number)))
+    (answers-only (setupRead (reading text)) (p .answer) (q .answer) (p .answers) (q .answers))
+    ∙ sym (q .says)
+
+-- so that no second count or output does
+pub resolve-only : (text output : List ℕ) (filled other : ℕ) (after later : List ℕ) → PutsOut (Resolves text) output filled after
+    → PutsOut (Resolves text) output other later → (filled ≡ other) × (after ≡ later)
+resolve-only text output filled other after later p q =
+    let same = lines-only text (p .0) (q .0) (p .1) (q .1) in
+    (p .2 .count ∙ ap length same ∙ sym (q .2 .count), p .2 .stored ∙ ap (sets output 0) same ∙ sym (q .2 .stored))
