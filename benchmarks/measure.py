@@ -1,12 +1,14 @@
 """Measures the jobs through the program `calls`: work done and seconds, for the families that docs/PERFORMANCE.md lists.
 
-    python3 benchmarks/measure.py [--jobs LETTERS] [--program WORDS]
+    python3 benchmarks/measure.py [--jobs LETTERS] [--instructions] [--program WORDS]
 
-Each call, or each run of calls alike, has a process of its own; what an empty one takes is subtracted. Nothing here is part of the tests.
+Each call, or each run of calls alike, has a process of its own; what an empty one takes is subtracted. With --instructions it counts the
+instructions instead, by valgrind on x86-64: the same count whatever else the machine does. Nothing here is part of the tests.
 """
 
 import argparse
 import random
+import re
 import subprocess
 import time
 from itertools import combinations, product
@@ -14,7 +16,9 @@ from pathlib import Path
 
 from scope_setups import Setup, scopes
 
-PROGRAM = f"{Path(__file__).resolve().parent.parent / 'scripts' / 'run'} calls"
+TOP = Path(__file__).resolve().parent.parent
+PROGRAM = f"{TOP / 'scripts' / 'run'} calls"
+COUNTED_PROGRAM = f"valgrind --tool=callgrind --callgrind-out-file=/dev/null {TOP / 'target' / 'bin' / 'calls'}"
 ALL_BUDGET = 0xFFFFFFFF
 ROOM = 1024
 REPEATS = 3
@@ -107,59 +111,86 @@ def turn_line(settings: int, sets: list[int]) -> str:
     return f"T {settings:08X} {set_digits(sets)} {ROOM:08X} {ROOM + 1:08X}"
 
 
-class Runner:
+class Timer:
+    """Seconds, at the best of some runs."""
+
+    unit = "s"
+    rate = "a second"
+
     def __init__(self, words: list[str]) -> None:
         self.words = words
-        self.overhead = min(self.seconds("")[0] for _ in range(5))
+        self.overhead = min(self.once("")[0] for _ in range(5))
 
-    def seconds(self, line: str, times: int = 1) -> tuple[float, list[str]]:
+    def once(self, text: str) -> tuple[float, list[str]]:
         start = time.perf_counter()
-        done = subprocess.run(self.words, input=(line + "\n").encode() * times, capture_output=True, check=True)
+        done = subprocess.run(self.words, input=text.encode(), capture_output=True, check=True)
         return time.perf_counter() - start, done.stdout.decode().split()
 
     def best(self, line: str, times: int = 1) -> tuple[float, list[str]]:
-        """What one call takes, of so many alike in one process, at the best of some runs."""
-        runs = [self.seconds(line, times) for _ in range(REPEATS)]
+        """What one call takes, of so many alike in one process, and the fields of its answer."""
+        runs = [self.once((line + "\n") * times) for _ in range(REPEATS)]
         return max(0.0, min(run[0] for run in runs) - self.overhead) / times, runs[0][1]
 
 
-def measure_ask(runner: Runner) -> None:
+class Counter:
+    """Millions of instructions."""
+
+    unit = "million instructions"
+    rate = "a million instructions"
+
+    def __init__(self, words: list[str]) -> None:
+        self.words = words
+        self.overhead = self.once("")[0]
+
+    def once(self, text: str) -> tuple[float, list[str]]:
+        done = subprocess.run(self.words, input=text.encode(), capture_output=True, check=True)
+        return int(re.search(rb"Collected : (\d+)", done.stderr)[1]) / 1e6, done.stdout.decode().split()
+
+    def best(self, line: str, times: int = 1) -> tuple[float, list[str]]:
+        """What one call takes, and the fields of its answer; one is counted, however many are wanted."""
+        count, fields = self.once(line + "\n")
+        return count - self.overhead, fields
+
+
+def measure_ask(meter: Timer | Counter) -> None:
     for seed in range(1, 6):
-        seconds, fields = runner.best(ask_line(64, random_threes(seed, 64, 300)), ASKS)
+        taken, fields = meter.best(ask_line(64, random_threes(seed, 64, 300)), ASKS)
         visits = int(fields[2], 16)
         answer = {"00000000": "Model", "00000081": "None"}.get(fields[1], fields[1])
-        print(f"ask, 64 variables, 300 clauses of three, seed {seed}: {answer}, {visits} visits, {seconds:.4f} s, {visits / max(seconds, 1e-9):,.0f} a second")
+        print(f"ask, 64 variables, 300 clauses of three, seed {seed}: {answer}, {visits} visits, {taken:.4f} {meter.unit}, {visits / max(taken, 1e-9):,.0f} {meter.rate}")
 
 
-def measure_list(runner: Runner) -> None:
+def measure_list(meter: Timer | Counter) -> None:
     families = [("dominating sets of 3 x 6", dominating(3, 6)), ("independent sets of 3 x 9", independent(3, 9))]
     families += [(f"scope: {name}", setup) for name, setup in scopes()]
     families += [("dominating sets of 3 x 5, twenty unrelated variables", with_unrelated(dominating(3, 5, 21)))]
     for name, setup in families:
-        seconds, fields = runner.best(list_line(setup))
+        taken, fields = meter.best(list_line(setup))
         size = f"{setup[0]} variables, {len(setup[1])} rules, {len(setup[2])} settings"
-        print(f"list, {name} ({size}): answer {fields[1]}, {int(fields[2], 16)} ways out, {seconds:.3f} s")
+        print(f"list, {name} ({size}): answer {fields[1]}, {int(fields[2], 16)} ways out, {taken:.3f} {meter.unit}")
 
 
-def measure_turn(runner: Runner) -> None:
+def measure_turn(meter: Timer | Counter) -> None:
     families = [("FFFFFFFF alone", (32, [0xFFFFFFFF])), ("16 pairs", (32, [3 << (2 * pair) for pair in range(16)])),
                 ("1,024 sets across five fours", (20, crossing_fours()))]
     for name, (settings, sets) in families:
-        seconds, fields = runner.best(turn_line(settings, sets))
-        print(f"turn, {name}: answer {fields[1]}, {int(fields[2], 16)} sets, {seconds:.3f} s")
-    slowest = max((runner.best(turn_line(*antichain(seed)))[0], seed) for seed in range(1, 151))
-    print(f"turn, 150 random antichains: the slowest (seed {slowest[1]}) takes {slowest[0]:.3f} s")
+        taken, fields = meter.best(turn_line(settings, sets))
+        print(f"turn, {name}: answer {fields[1]}, {int(fields[2], 16)} sets, {taken:.3f} {meter.unit}")
+    slowest = max((meter.best(turn_line(*antichain(seed)))[0], seed) for seed in range(1, 151))
+    print(f"turn, 150 random antichains: the slowest (seed {slowest[1]}) takes {slowest[0]:.3f} {meter.unit}")
 
 
 def main() -> None:
     parser = argparse.ArgumentParser(description="measures the jobs through the program calls")
     parser.add_argument("--jobs", default="ALT", help="the letters that are measured")
-    parser.add_argument("--program", default=PROGRAM, help="words that run another program instead")
+    parser.add_argument("--instructions", action="store_true", help="instructions are counted, and no time is taken")
+    parser.add_argument("--program", help="words that run another program instead")
     words = parser.parse_args()
-    runner = Runner(words.program.split())
+    program = words.program or (COUNTED_PROGRAM if words.instructions else PROGRAM)
+    meter = (Counter if words.instructions else Timer)(program.split())
     for letter, measured in (("A", measure_ask), ("L", measure_list), ("T", measure_turn)):
         if letter in words.jobs:
-            measured(runner)
+            measured(meter)
 
 
 if __name__ == "__main__":

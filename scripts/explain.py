@@ -1,68 +1,83 @@
-"""Tells what the program waysout answered, in words: python3 scripts/explain.py FILE < answer
+"""Tells what the program waysout answered, in words.
 
-The settings' names stand in FILE with its ending replaced by .names, one a line in the settings' order; without that file they are
-called by their numbers. Nothing is decided here.
+    python3 scripts/explain.py TEXT ANSWER [NAMES]
+
+TEXT is the setup, ANSWER what the program put out for it. NAMES has the settings' names, one a line in their order; a setting that has
+none is called by its number. Nothing is decided here: the marks are asked of the job Mark, through the program `calls`.
 """
 
+import subprocess
 import sys
 from pathlib import Path
 
+RUN = Path(__file__).resolve().parent / "run"
+WAY_OUT, CLASH = "40", "50"
+LISTED, UNMET = 0x00, 0x80
+MOST_SETTINGS = 32
+
+# Document 01's refusals, as far as the program can give them.
 REFUSALS = {
-    1: "more than 64 variables", 2: "the text is longer than 32,768 bytes, or a buffer is too long", 3: "the scratch is too short",
-    4: "a literal names a variable that there is not", 5: "a clause has no end", 6: "a clause has more than 127 literals",
-    7: "more than 32 settings", 8: "more than 1,024 ways out or clashes", 9: "a list that can't be turned", 10: "the budget is spent",
-    11: "the text is not a setup: a line is not a frame, or the header or the end is missing", 12: "the clauses don't fit",
+    1: "it has more than 64 variables",
+    2: "it is longer than 32,768 bytes",
+    4: "a rule or a setting names a variable that it hasn't",
+    7: "it has more than 32 settings",
+    8: "it has more than 1,024 ways out or more than 1,024 clashes",
+    11: "it isn't a setup: a line isn't a frame, or the header or the end is missing",
+    12: "its rules take more than 8,192 bytes or its settings more than 2,048",
 }
 
+MARKS = {"K": "kept: no way out gives it up", "L": "lost: every way out gives it up", "O": "open: some ways out give it up"}
 
-def named(text: Path) -> list[str]:
-    """The settings' names: from the file beside the setup, and numbers for those that it hasn't."""
-    beside = text.with_suffix(".names")
+
+def named(beside: Path) -> list[str]:
+    """The settings' names, and numbers for those that have none."""
     names = beside.read_text(encoding="utf-8").splitlines() if beside.is_file() else []
-    return names + [f"setting {number}" for number in range(len(names) + 1, 33)]
+    return names + [f"setting {number}" for number in range(len(names) + 1, MOST_SETTINGS + 1)]
 
 
-def members(value: int, names: list[str]) -> str:
-    return ", ".join(names[place] for place in range(32) if value >> place & 1) or "nothing"
+def sets_of(kind: str, lines: list[str]) -> list[int]:
+    return [int(line[2:], 16) for line in lines if line.startswith(kind)]
 
 
-def mark(place: int, ways: list[int]) -> str:
-    """Document 01's marks over the ways out, in its order of tests."""
-    if not any(way >> place & 1 for way in ways):
-        return "kept"
-    return "lost" if all(way >> place & 1 for way in ways) else "open"
+def told(value: int, names: list[str]) -> str:
+    """The settings of a set by name."""
+    return ", ".join(names[place] for place in range(MOST_SETTINGS) if value >> place & 1) or "nothing"
 
 
-def settings_of(text: Path) -> int:
-    """How many settings the setup has: its soft clause frames."""
-    return sum(line.startswith("30") for line in text.read_text(encoding="ascii").splitlines())
+def marks_of(settings: int, ways_out: list[int]) -> str:
+    """A letter for each setting, as the job Mark gives them."""
+    given = "".join(f"{each:08X}" for each in ways_out) or "-"
+    call = f"M {settings:08X} {given} {settings:08X}\n"
+    answer = subprocess.run([RUN, "calls"], input=call, capture_output=True, text=True, check=True).stdout
+    marks = answer.split()[3]
+    return "" if marks == "-" else bytes.fromhex(marks).decode("ascii")
+
+
+def print_listed(settings: int, ways_out: list[int], clashes: list[int], names: list[str]) -> None:
+    if ways_out == [0]:
+        print("All of it can be had together: nothing has to be given up.")
+    else:
+        print(f"Not all of it can be had together. Ways out, {len(ways_out)}: to give up all of one line is enough.")
+        for way_out in ways_out:
+            print(f"  - {told(way_out, names)}")
+        print(f"Clashes, {len(clashes)}: all of one line can't be had together.")
+        for clash in clashes:
+            print(f"  - {told(clash, names)}")
+    for name, mark in zip(names, marks_of(settings, ways_out)):
+        print(f"{name}: {MARKS[mark]}")
 
 
 def main() -> None:
-    text = Path(sys.argv[1])
-    lines = sys.stdin.read().splitlines()
+    text, answer, names = (Path(each) for each in (sys.argv[1:] + [""])[:3])
+    lines = answer.read_text(encoding="ascii").splitlines()
     outcome = int(lines[-1][2:4], 16)
-    ways = [int(line[2:], 16) for line in lines if line.startswith("40")]
-    clashes = [int(line[2:], 16) for line in lines if line.startswith("50")]
-    names = named(text)
-    if outcome == 0x80:
+    if outcome == LISTED:
+        settings = sum(line.startswith(b"30") for line in text.read_bytes().splitlines())
+        print_listed(settings, sets_of(WAY_OUT, lines), sets_of(CLASH, lines), named(names))
+    elif outcome == UNMET:
         print("The hardware rules contradict themselves: nothing can be had, whatever is given up.")
-        return
-    if outcome != 0:
-        print(f"Refused ({outcome}): {REFUSALS.get(outcome, 'unknown')}.")
-        return
-    if ways == [0]:
-        print("Everything can be had together.")
-        return
-    print(f"Not all of it can be had together. To give up, one of {len(ways)}:")
-    for way in ways:
-        print(f"  - {members(way, names)}")
-    print(f"What can't stand together, {len(clashes)}:")
-    for clash in clashes:
-        print(f"  - {members(clash, names)}")
-    print("Each setting:")
-    for place in range(settings_of(text)):
-        print(f"  {names[place]}: {mark(place, ways)}")
+    else:
+        print(f"The setup is refused, number {outcome}: {REFUSALS[outcome]}.")
 
 
 if __name__ == "__main__":

@@ -80,13 +80,17 @@ def write(count: int, hard: bytes, soft: bytes, text_places: bytes) -> tuple[int
     number = refusal_of_write(count, hard, soft, len(text_places))
     if number != DONE:
         return number, 0, text_places
-    # "The writer puts the header, hard clauses, soft clauses and FF."
+    text = text_of(count, hard, soft)
+    return DONE, len(text), text + text_places[len(text):]
+
+
+def text_of(count: int, hard: bytes, soft: bytes) -> bytes:
+    """By "The writer puts the header, hard clauses, soft clauses and FF"; it judges nothing."""
     frames = [bytes([HEADER, count])]
     frames += [bytes([HARD]) + clause for clause in clauses_of(hard)]
     frames += [bytes([SOFT]) + clause for clause in clauses_of(soft)]
     frames += [bytes([END])]
-    text = b"".join(line_of(frame) for frame in frames)
-    return DONE, len(text), text + text_places[len(text):]
+    return b"".join(line_of(frame) for frame in frames)
 
 
 def line_of(frame: bytes) -> bytes:

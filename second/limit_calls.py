@@ -4,6 +4,7 @@ from itertools import combinations, product
 from typing import Callable
 
 from calls import MOST_BYTES, MOST_SETS, line_of_call
+from frames import text_of
 from random_calls import NO_END_OF_BUDGET, length_of_text
 from refused_calls import TOO_LONG
 from resolver import ask
@@ -232,9 +233,10 @@ TOO_LONG_LINE = b"20" + b"01" * 128 + b"\n"
 def wrong_texts() -> list[bytes]:
     """Each class of Frame, at the first, a middle and the last line."""
     texts = [b"", b"\n", b"FF\n", b"1003\n", b"1003", b"1003\nFF", b"1003\r\nFF\r\n", b"FF\n1003\n",
-             b"10\nFF\n", b"1003FF\n", b"1003\n1003\nFF\n", b"1003\n00\nFF\n", b"2001\n1003\nFF\n",
-             b"1003\n20\n", b"20\nFF\n", b"1003\nFF\n20\nFF\n", b"1003\n2001003\nFF\n",
-             b"1003\n2000\nFF\n", b"1003\n300001\nFF\n", b"1003\n30010003\nFF\n"]
+             b"10\nFF\n", b"1003FF\n", b"1003\n1003\nFF\n", b"1003\n1003\n", b"1003\n00\nFF\n",
+             b"2001\n1003\nFF\n", b"1003\n20\n", b"20\nFF\n", b"1003\nFF\n20\nFF\n",
+             b"1003\n2001003\nFF\n", b"1003\n2000\nFF\n", b"1003\n300001\nFF\n",
+             b"1003\n30010003\nFF\n"]
     for place in (0, 3, 6):
         before, after = b"".join(GOOD_LINES[:place]), b"".join(GOOD_LINES[place + 1:])
         texts += [before + other + after for other in wrong_instead_of(GOOD_LINES[place][:-1])]
@@ -244,9 +246,10 @@ def wrong_texts() -> list[bytes]:
 def wrong_instead_of(line: bytes) -> list[bytes]:
     """What makes any text Frame if it stands there instead of this line and its LF."""
     return ([line[:-1] + b"a\n", line + b"\r\n", line + b"0\n", line[:-1] + b"\n", line + b" \n",
-             b" " + line + b"\n", line + b"00\n", b"\n" + line + b"\n", line + b"\n\n",
+             b" " + line + b"\n", line + b"00\n", b"\n", b"\n" + line + b"\n", line + b"\n\n",
              line + b"\n1003\n", b"1003\n" + line + b"\n", line + b"\nFF\n", b"FF\n" + line + b"\n",
-             line + b"\n" + TOO_LONG_LINE, TOO_LONG_LINE + line + b"\n", line + b"0" * 256 + b"\n"]
+             line + b"\n" + TOO_LONG_LINE, TOO_LONG_LINE + line + b"\n",
+             line.ljust(258, b"0") + b"\n", line + b"0" * 258 + b"\n"]
             + [kind + line[2:] + b"\n"
                for kind in (b"00", b"01", b"0F", b"11", b"21", b"2F", b"31", b"40", b"FE")]
             + [line[:1] + byte + line[2:] + b"\n"
@@ -264,14 +267,9 @@ def near_texts() -> list[bytes]:
     return texts
 
 
-def text_of(empty_clauses: int, last_clause: bytes) -> bytes:
-    """A good text of so many empty hard clauses and one more clause."""
-    return b"1001\n" + b"20\n" * empty_clauses + last_clause + b"\nFF\n"
-
-
 # Good texts of 32,768 and 32,769 bytes.
-MOST_TEXT = text_of(10919, b"30")
-MORE_TEXT = text_of(10918, b"300102")
+MOST_TEXT = text_of(1, bytes(10919), b"\0")
+MORE_TEXT = text_of(1, bytes(10918), b"\x01\x02\0")
 
 
 def limit_reads() -> list[Call]:

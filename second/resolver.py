@@ -4,7 +4,7 @@ Each job returns its number, what it tells, and every lent place as it stands af
 Quotations in the comments are sentences of document 01, here and in the files beside.
 """
 
-from itertools import combinations, islice
+from itertools import combinations, groupby, islice
 from typing import Iterator, Optional
 
 MOST_VARIABLES = 64
@@ -197,39 +197,65 @@ def is_true(masks: tuple[int, int], assignment: int) -> bool:
     return assignment & ones != 0 or ~assignment & zeros != 0
 
 
-def assignments_meeting(hard: list[bytes], variables: list[int]) -> list[int]:
-    """Every assignment of the variables, given in rising order, that meets all hard clauses."""
-    # "An empty clause is allowed and is never true."
-    if b"" in hard:
-        return []
-    assignments = [0]
-    for variable in variables:
-        both = [assignment | value << variable for assignment in assignments for value in (0, 1)]
-        # A clause is judged as soon as its last variable has a value.
-        judged = [truth_masks(clause) for clause in hard
-                  if max(literal % NEGATED for literal in clause) == variable]
-        assignments = [assignment for assignment in both
-                       if all(is_true(masks, assignment) for masks in judged)]
-    return assignments
+def last_variable(clause: bytes) -> int:
+    """The highest variable of a clause, which is judged once that has a value; 0 if it is empty."""
+    return max((literal % NEGATED for literal in clause), default=0)
 
 
 def broken_sets(hard: list[bytes], soft: list[bytes]) -> set[int]:
-    """For each assignment that meets the hard clauses, the set of the settings it breaks."""
-    # A variable in no clause makes no clause true or false, so only the others are tried.
-    variables = sorted({literal % NEGATED for clause in hard + soft for literal in clause})
-    settings = [(1 << place, truth_masks(clause)) for place, clause in enumerate(soft)]
-    return {sum(bit for bit, masks in settings if not is_true(masks, assignment))
-            for assignment in assignments_meeting(hard, variables)}
+    """The sets of settings that the assignments which meet the hard clauses break; at least the
+    smallest of them.
+
+    All assignments grow together, variable by variable. Those that agree on every variable of the
+    clauses not judged yet go on alike, so they go on as one, with all that they broke so far.
+    """
+    clauses = hard + soft
+    # A variable in no clause makes no clause true or false, so only the others are tried. 0 is no
+    # variable; "an empty clause is allowed and is never true", and is judged there.
+    variables = sorted({0, *(literal % NEGATED for clause in clauses for literal in clause)})
+    broken = {0: {0}}
+    for variable in variables:
+        rules = [truth_masks(clause) for clause in hard if last_variable(clause) == variable]
+        settings = [(1 << place, truth_masks(clause)) for place, clause in enumerate(soft)
+                    if last_variable(clause) == variable]
+        later = {literal % NEGATED for clause in clauses if last_variable(clause) > variable
+                 for literal in clause}
+        broken = with_variable(variable, broken, rules, settings, sum(1 << each for each in later))
+    # All clauses are judged, so all assignments have become one, if any meets the hard clauses.
+    return broken.get(0, set())
+
+
+def with_variable(variable: int, broken: dict[int, set[int]], rules: list[tuple[int, int]],
+                  settings: list[tuple[int, tuple[int, int]]], later: int) -> dict[int, set[int]]:
+    """What the assignments break once the variable has a value too; they are told apart by the
+    later variables alone. The rules and settings are those whose last variable this is."""
+    longer: dict[int, set[int]] = {}
+    for before, sets in broken.items():
+        # What is broken later is broken beside each of these sets, so one that has another of
+        # them within never becomes a way out.
+        smallest = list(smallest_sets(sets))
+        for assignment in (before, before | 1 << variable):
+            if all(is_true(masks, assignment) for masks in rules):
+                also = sum(bit for bit, masks in settings if not is_true(masks, assignment))
+                alike = longer.setdefault(assignment & later, set())
+                alike.update(each | also for each in smallest)
+    return longer
+
+
+def members_count(each: int) -> int:
+    return bin(each).count("1")
 
 
 def smallest_sets(sets: set[int]) -> Iterator[int]:
     """The sets that have no other of them within."""
     smallest: list[int] = []
-    # Sets with fewer members come first, so nothing later lies within one given out.
-    for candidate in sorted(sets, key=lambda each: bin(each).count("1")):
-        if not any(smaller & candidate == smaller for smaller in smallest):
-            smallest.append(candidate)
-            yield candidate
+    # A set within another has fewer members, so those with fewer come first, and of those with
+    # equally many none lies within another.
+    for _, equally_many in groupby(sorted(sets, key=members_count), key=members_count):
+        found = [candidate for candidate in equally_many
+                 if not any(smaller & candidate == smaller for smaller in smallest)]
+        smallest += found
+        yield from found
 
 
 # Turn and Mark.

@@ -1,13 +1,16 @@
 """The second program's own test: document 01's table and sample, random setups and lists against
-the definitions, and every refusal and lent place. Run as `python3 second/test.py`."""
+the definitions, every refusal and lent place, and what the compared calls and texts hold. Run as
+`python3 second/test.py`."""
 
 import sys
 from random import Random
 
-from calls import ALL_JOBS, answer, answers, line_of_call
+from batch import section
+from calls import ALL_JOBS, answer, answers, line_of_call, some_bytes
 from definitions import (clashes_by_definition, models, turned_by_definition,
                          ways_out_by_definition)
-from frames import read, write
+from frame_classes import all_faults, faults
+from frames import read, text_of, write
 from limit_calls import (FULL, MORE_TEXT, MOST_TEXT, P10_CLAUSES, TABLE, both_sides, clause,
                          disjoint_pairs, limit_lines, one_of_each_pair, right_lists, units,
                          wrong_lists, wrong_texts)
@@ -18,7 +21,8 @@ from random_calls import (NO_END_OF_BUDGET, buffer_of, few_wide_sets, length_of_
 from refused_calls import TOO_LONG, chains, pairs
 from resolver import (DONE, FRAME, LIST, LITERAL, LONG, NONE, ROOM, SIZE, SOFTS, SPENT, TAIL,
                       TOO_MANY, UNMET, VARS, WORK, ask, clauses_of, list_ways_out, mark, turn)
-from waysout import waysout
+from texts import TEXT_END, equal_pairs, one_at_a_time, one_or_pairs, texts
+from waysout import outcome_of, waysout
 
 SEED = 2
 passed = failed = 0
@@ -75,11 +79,6 @@ def test_rest_of_table() -> None:
 
 def lines(text: str) -> bytes:
     return b"".join(line.encode("ascii") + b"\n" for line in text.split())
-
-
-def text_of(count: int, hard: bytes, soft: bytes) -> bytes:
-    number, filled, text = write(count, hard, soft, bytes(length_of_text(hard, soft)))
-    return text
 
 
 def test_program() -> None:
@@ -363,6 +362,54 @@ def test_lines() -> None:
     same("no line", answers(b""), b"")
 
 
+# What is compared: no class may get lost.
+
+def test_texts(given: list[bytes]) -> None:
+    same("texts with the byte that ends one", [text for text in given if TEXT_END in text], [])
+    found = {text: outcome_of(text) for text in given}
+    same("the outcomes", {outcome for outcome, ways_out, clashes in found.values()},
+         {DONE, UNMET, VARS, SIZE, LITERAL, SOFTS, TOO_MANY, FRAME, ROOM})
+    same("TooMany from List, and from Turn after a whole list",
+         {number_of_list(text) for text in found if found[text][0] == TOO_MANY}, {TOO_MANY, DONE})
+    same("the most ways out", max(len(ways_out) for _, ways_out, _ in found.values()), 1024)
+    same("the most clashes", max(len(clashes) for _, _, clashes in found.values()), 1024)
+    same("the longest texts", {(len(text), found[text][0]) for text in given if len(text) > 32767},
+         {(32768, ROOM), (32768, FRAME), (32769, SIZE)})
+
+
+def test_full_setups() -> None:
+    """The counts of the setups at and beyond 1,024 sets, on smaller ones of their kind."""
+    for setup, ways_out, clashes in [(one_or_pairs(3), 2**3 + 1, 3), (equal_pairs(3), 3, 2**3),
+                                     (equal_pairs(3, b"\0"), 3, 2**3 + 1),
+                                     (one_at_a_time(4), 4, 6)]:
+        count, hard, soft = setup[0], clauses_of(setup[1]), clauses_of(setup[2])
+        same(f"ways out of {setup}", len(ways_out_by_definition(count, hard, soft)), ways_out)
+        same(f"clashes of {setup}", len(clashes_by_definition(count, hard, soft)), clashes)
+
+
+def number_of_list(text: bytes) -> int:
+    """What List says of the setup in a good text."""
+    number, count, hard_filled, soft_filled, hard, soft = read(text, bytes(8192), bytes(2048))
+    return listed(list_ways_out, count, hard[:hard_filled], soft[:soft_filled])[0]
+
+
+def test_frame_classes(what: str, given: list[bytes]) -> None:
+    """Every class of Frame is there by itself, at the first, a middle and the last line, where it
+    can stand there."""
+    alone = set()
+    for text in given:
+        found = faults(text)
+        same(f"Frame of {text[:300]}", read(text, bytes(40_000), bytes(40_000))[0],
+             SIZE if len(text) > 32768 else FRAME if found else DONE)
+        alone |= set(found) if len(found) == 1 else set()
+    same(f"classes of Frame that are missing from {what}", sorted(all_faults() - alone), [])
+
+
+def texts_of_calls() -> list[bytes]:
+    """The texts of the compared calls of Read."""
+    return [some_bytes(line.split(b" ")[1]) for line in section("R") if answer(line) != b"?"]
+
+
 def main() -> None:
     random = Random(SEED)
     test_table()
@@ -376,6 +423,11 @@ def main() -> None:
     test_refusals()
     test_places(random)
     test_lines()
+    compared = texts()
+    test_texts(compared)
+    test_full_setups()
+    test_frame_classes("the compared texts", compared)
+    test_frame_classes("the compared calls", texts_of_calls())
     if failed:
         sys.exit(f"second: {failed} of {passed + failed} checks failed")
     print(f"second: {passed} checks passed")

@@ -1,5 +1,5 @@
 -- What the program puts out for a text, for all texts (document 01, "The program's lines").
-use mathlib.Core.Path.{_≡_}
+use mathlib.Core.Path.{_≡_, refl}
 use mathlib.Core.Bool.{cond}
 use mathlib.Core.List.{List, [], _∷_}
 use Prim.Native.Nat.{ℕ}
@@ -42,6 +42,12 @@ abbrev pub listedLines : ListResult → ListResult → List ℕ
 listedLines found turned =
     cond (eqb (found .number) finished) (turnedLines (listedSets found) turned)
     (cond (eqb (found .number) unmet) (answerLines unmet [] (0 ∷ [])) (refusalLines (found .number)))
+
+-- TooMany from Turn puts out the last line alone, whatever List has listed; Unmet puts out the empty clash
+example-lines :
+    (turnedLines (3 ∷ 5 ∷ []) (record { number = 8; filled = 0; list = []; scratch = [] }) ≡ refusalLines 8)
+    × ((turned : ListResult) → listedLines (record { number = 128; filled = 0; list = []; scratch = [] }) turned ≡ answerLines 128 [] (0 ∷ []))
+example-lines = (refl, λ turned. refl)
 
 -- `lines` answer the ways out of a setup of n settings: Turn, with this scratch, gives `turned`
 pub record AnswersTurn (n : ℕ) (ways scratch lines : List ℕ) : Type 0 where

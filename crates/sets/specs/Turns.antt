@@ -1,6 +1,9 @@
 -- Turning a list of sets (document 01: Turn "writes the sets that share a setting with each member and have no proper subset that does").
-use mathlib.Core.List.{List}
+use mathlib.Core.Path.{refl, sym, subst}
+use mathlib.Core.Logic.{inl, inr}
+use mathlib.Core.List.{List, [], _∷_}
 use Prim.Native.Nat.{ℕ, _^_, _<_}
+use native.Mathlib.Omega.{arith}
 use Rattle.sets.specs.Sets.{Share, Smallest}
 use Rattle.sets.specs.Lists.{Listed, Rising, Apart, Exactly}
 
@@ -8,6 +11,13 @@ use Rattle.sets.specs.Lists.{Listed, Rising, Apart, Exactly}
 pub record Crosses (n : ℕ) (Family : ℕ → Type 0) (S : ℕ) : Type 0 where
   pub below : S < 2 ^ n
   pub each : (M : ℕ) → Family M → Share S M
+
+-- 2 shares a setting with 3 and with 6
+example-crosses : Crosses 3 (λ M. Listed M (3 ∷ 6 ∷ [])) 2
+example-crosses = record { below = omega arith; each = each } where
+  each : (M : ℕ) → Listed M (3 ∷ 6 ∷ []) → Share 2 M
+  each M (inl three) = subst (Share 2) (sym three) (1, refl, refl)
+  each M (inr (inl six)) = subst (Share 2) (sym six) (1, refl, refl)
 
 -- and no proper subset of it does
 abbrev pub SmallestCross : ℕ → (ℕ → Type 0) → ℕ → Type 0

@@ -1,4 +1,5 @@
 -- What an ask gives back, for all arguments (document 01, "One ask" and "What comes back when it can't").
+use mathlib.Core.Path.{_≡_, refl}
 use mathlib.Core.Bool.{cond, _||_, not}
 use mathlib.Core.List.{List, [], _∷_, _++_}
 use Prim.Native.Nat.{ℕ}
@@ -53,3 +54,10 @@ askResult n bytes assumed budget places =
     let refused : AskResult = record { number = refusal; visits = 0; model = places } in
     let answered = found n budget places (search n (askClauses bytes assumed)) in
     cond (eqb refusal 0) answered refused
+
+-- two variables, (1 2), (1 −2), (−1 2): the third visit has the model 1, 1, and the third place stays; the budget 2 is spent
+example-ask :
+    (askResult 2 (1 ∷ 2 ∷ 0 ∷ 1 ∷ 130 ∷ 0 ∷ 129 ∷ 2 ∷ 0 ∷ []) [] 3 (9 ∷ 9 ∷ 9 ∷ []) ≡ record { number = 0; visits = 3; model = 1 ∷ 1 ∷ 9 ∷ [] })
+    × (askResult 2 (1 ∷ 2 ∷ 0 ∷ 1 ∷ 130 ∷ 0 ∷ 129 ∷ 2 ∷ 0 ∷ []) [] 2 (9 ∷ 9 ∷ 9 ∷ []) ≡ record { number = 10; visits = 0; model = 9 ∷ 9 ∷ 9 ∷ [] })
+unfolding askResult
+example-ask = (refl, refl)

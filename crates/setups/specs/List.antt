@@ -1,8 +1,8 @@
 -- What List gives back, for all arguments (document 01, "Ways out and clashes" and "What comes back when it can't").
-use mathlib.Core.Path.{_≡_}
+use mathlib.Core.Path.{_≡_, refl}
 use mathlib.Core.Logic.{_↔_}
 use mathlib.Core.Bool.{Bool, cond, _||_, not}
-use mathlib.Core.List.{List, _++_}
+use mathlib.Core.List.{List, [], _∷_, _++_}
 use Prim.Native.Nat.{ℕ}
 use lib.Dec.{T, ltb, leb, eqb}
 use lib.ListN.{length, drop, replicate}
@@ -31,6 +31,12 @@ abbrev pub givenOut : List ℕ → List ℕ → List ℕ → ListResult
 givenOut sets list scratch =
     cond (ltb (length list) (length sets)) (without-list (numberOf TooMany) list (zeroed scratch))
     (record { number = finished; filled = length sets; list = sets ++ drop (length sets) list; scratch = zeroed scratch })
+
+-- two sets in room 3 leave the third place; in room 1 they are TooMany, and only the scratch is written
+example-given-out :
+    (givenOut (5 ∷ 6 ∷ []) (9 ∷ 9 ∷ 9 ∷ []) (9 ∷ 9 ∷ 9 ∷ 9 ∷ []) ≡ record { number = 0; filled = 2; list = 5 ∷ 6 ∷ 9 ∷ []; scratch = 0 ∷ 0 ∷ 0 ∷ 0 ∷ [] })
+    × (givenOut (5 ∷ 6 ∷ []) (9 ∷ []) (9 ∷ 9 ∷ []) ≡ record { number = 8; filled = 0; list = 9 ∷ []; scratch = 0 ∷ 0 ∷ [] })
+example-given-out = (refl, refl)
 
 -- 1, 2, 3, 4, 5, 6, 7; 0 where none is given. Work: "scratch shorter than room + 1"
 abbrev pub listRefusal : ℕ → List ℕ → List ℕ → ℕ → ℕ → ℕ

@@ -1,7 +1,7 @@
 -- What Turn gives back, for all arguments (document 01, "Ways out and clashes" and "What comes back when it can't").
-use mathlib.Core.Path.{_≡_}
+use mathlib.Core.Path.{_≡_, refl}
 use mathlib.Core.Bool.{cond, _||_, not}
-use mathlib.Core.List.{List}
+use mathlib.Core.List.{List, [], _∷_}
 use Prim.Native.Nat.{ℕ}
 use lib.Dec.{ltb, leb, eqb}
 use lib.ListN.{length}
@@ -19,6 +19,10 @@ turnRefusal n given room scratchRoom =
     (check (ltb setsMost (length given) || ltb setsMost room) Size
     (check (leb scratchRoom room) Work
     (check (not (fine n given)) NotAList 0)))
+
+-- over one setting the list 0, 1 is refused, since 0 lies within 1 (P13); over two settings the list 1, 2 may be turned
+example-turn-refusal : (turnRefusal 1 (0 ∷ 1 ∷ []) 4 5 ≡ 9) × (turnRefusal 2 (1 ∷ 2 ∷ []) 4 5 ≡ 0)
+example-turn-refusal = (refl, refl)
 
 -- The result r of Turn: `turned` is the turn of the given list over n settings.
 pub record Turns (n : ℕ) (given list scratch : List ℕ) (r : ListResult) : Type 0 where
