@@ -13,6 +13,7 @@ use Rattle.setups.specs.declared.Refusal.{Refusal}
 use Rattle.setups.specs.declared.Refusal.the-variants.{Spent}
 use Rattle.setups.specs.Limits.{variablesMost}
 use Rattle.setups.specs.Clauses.{LiteralOf}
+use Rattle.setups.specs.Settling.{opening}
 use Rattle.setups.specs.Search.{Found, Model, None}
 use Rattle.setups.specs.Searching.{visit, search}
 use Rattle.setups.specs.Meaning.{Means}
@@ -28,7 +29,6 @@ use Rattle.search.specs.Scans.{ReadableAll}
 use Rattle.search.specs.Told.{told}
 use Rattle.ask.specs.declared.Asked.the-variants as asked
 use Rattle.ask.specs.Asking.{answered}
-use Rattle.ask.specs.Starting.{startOf}
 use Rattle.ask.proofs.Padding.{padded, visit-pad}
 use Rattle.ask.proofs.Refusing.{Taken}
 
@@ -71,7 +71,7 @@ told-made n budget k cs places (None visits) means =
     let l : visits ≤ budget = omega arith in
     rw (zero-add visits, le-ltb budget visits l))
 
-module _ (n budget : ℕ) (cs : List (List ℕ)) (places : List ℕ) (a : Answer) (is : a ≡ told budget 0 (visit cs (startOf n))) where
+module _ (n budget : ℕ) (cs : List (List ℕ)) (places : List ℕ) (a : Answer) (is : a ≡ told budget 0 (visit cs (opening n))) where
   search-made : madeOf n places a ≡ found n budget places (search n cs)
   unfolding search
   search-made =

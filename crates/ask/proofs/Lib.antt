@@ -4,8 +4,6 @@
 mod Padding
 -- the refusals, in their order
 mod Refusing
--- the first values, and the model, place by place
-mod Filling
 -- from what the search tells to what an ask gives back
 mod Answering
 -- what the promise says of each answer, and that it allows no second result

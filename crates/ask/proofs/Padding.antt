@@ -8,6 +8,7 @@ use native.Mathlib.Nat.{le-refl, le-of-eq}
 use native.Mathlib.Omega.{arith}
 use lib.ListN.{length, getD, set, replicate, length-append}
 use lib.Seq.{set-append-left}
+use Rattle.numbers.proofs.Places.{zeros-at}
 use Rattle.setups.specs.declared.Seen.{Seen}
 use Rattle.setups.specs.declared.Seen.the-variants.{AllFalse, OneFree, Enough}
 use Rattle.setups.specs.Clauses.{place, wish}
@@ -30,13 +31,8 @@ padded k (None visits) = None visits
 module _ (k : ℕ) where
   -- ---- a value, a scan
 
-  getD-zeros : (j i : ℕ) → _≡_ {A = ℕ} (getD (replicate j 0) i 0) 0
-  getD-zeros zero i = refl
-  getD-zeros (suc j) zero = refl
-  getD-zeros (suc j) (suc i) = getD-zeros j i
-
   getD-pad : (values : List ℕ) (i : ℕ) → getD (pad k values) i 0 ≡ getD values i 0
-  getD-pad [] i = getD-zeros k i
+  getD-pad [] i = zeros-at k i
   getD-pad (x ∷ values) zero = refl
   getD-pad (x ∷ values) (suc i) = getD-pad values i
 

@@ -1,22 +1,21 @@
 -- The refusals of an ask, one after another: each is given, or those after it are left; and what is known where none is given.
-use mathlib.Core.Path.{_≡_, refl, sym, _∙_}
+use mathlib.Core.Path.{_≡_, sym, _∙_}
 use mathlib.Core.Logic.{_≢_}
-use mathlib.Core.Bool.{Bool, true, false, not, _||_, true≢false}
+use mathlib.Core.Bool.{true, false, not, _||_}
 use mathlib.Core.List.{List}
-use Prim.Native.Nat.{ℕ, _≤_, _<_}
+use Prim.Native.Nat.{ℕ, _≤_, _<_, zero-le}
 use native.Mathlib.Omega.{arith}
-use borrow.Author.Tests.{lt-ltb, le-ltb, ltb-false}
+use borrow.Author.Tests.{lt-ltb, le-ltb, ltb-false, not-false}
 use lib.Dec.{ltb}
 use lib.ListN.{length}
-use Rattle.setups.specs.declared.Refusal.{Refusal}
+use Rattle.sets.proofs.Deciding.{neither}
 use Rattle.setups.specs.declared.Refusal.the-variants.{Vars, Size, Literal, Tail, Long, Room}
 use Rattle.setups.specs.Limits.{variablesMost, hardBytesMost, assumedMost}
 use Rattle.setups.specs.Refusals.{numberOf, noModel, check, noLiteral, noClauseByte, firstPlace, offends, ended, long}
 use Rattle.setups.specs.Checks.{tailPlace, longPlace}
 use Rattle.setups.specs.Ask.{askRefusal}
 use Rattle.setups.proofs.CheckLaws.{tail-test, long-test}
-use Rattle.setups.proofs.LiteralLaws.{neither}
-use Rattle.setups.proofs.Refusals.{refused-number, refused-not-none, check-passed, check-other}
+use Rattle.setups.proofs.Refusals.{check-none, check-most}
 
 -- ---- in their order
 
@@ -42,10 +41,6 @@ fromSize n bytes assumed room = check (ltb hardBytesMost (length bytes) || ltb a
 
 pub vars-given : (n : ℕ) (bytes assumed : List ℕ) (room : ℕ) → variablesMost < n → numberOf Vars ≡ askRefusal n bytes assumed room
 vars-given n bytes assumed room h = rw (lt-ltb variablesMost n h)
-
-not-false : (q : Bool) → not q ≡ false → q ≡ true
-not-false true e = refl
-not-false false e = absurd (true≢false e)
 
 ended-so : (bytes : List ℕ) → length bytes ≤ tailPlace bytes → ended bytes ≡ true
 ended-so bytes h = not-false (ended bytes) (sym (tail-test bytes) ∙ le-ltb (tailPlace bytes) (length bytes) h)
@@ -132,20 +127,18 @@ module _ {n : ℕ} {bytes assumed : List ℕ} {room : ℕ} where
 
 -- none of them has the number of None
 pub refusal-not-none : (n : ℕ) (bytes assumed : List ℕ) (room : ℕ) → askRefusal n bytes assumed room ≢ noModel
-refusal-not-none n bytes assumed room =
-    other (ltb variablesMost n) Vars (fromSize n bytes assumed room)
-    (other (ltb hardBytesMost (length bytes) || ltb assumedMost (length assumed)) Size (fromRoom n bytes assumed room)
-    (other (ltb room n) Room (fromLiteral n bytes assumed room)
-    (other (offends (noClauseByte n) bytes || offends (noLiteral n) assumed) Literal (fromTail n bytes assumed room)
-    (other (not (ended bytes)) Tail (fromLong n bytes assumed room) (other (long bytes) Long 0 (λ e. omega arith))))))
+refusal-not-none n bytes assumed room e = let b : ⊥ = omega (arith, most) in b
   where
-    other : (test : Bool) (refusal : Refusal) (rest : ℕ) → rest ≢ noModel → check test refusal rest ≢ noModel
-    other test refusal rest = check-other test refusal rest noModel (refused-not-none refusal)
+    most : askRefusal n bytes assumed room ≤ 12
+    most =
+        check-most 12 (ltb variablesMost n) Vars (fromSize n bytes assumed room) (omega arith)
+        (check-most 12 (ltb hardBytesMost (length bytes) || ltb assumedMost (length assumed)) Size (fromRoom n bytes assumed room) (omega arith)
+        (check-most 12 (ltb room n) Room (fromLiteral n bytes assumed room) (omega arith)
+        (check-most 12 (offends (noClauseByte n) bytes || offends (noLiteral n) assumed) Literal (fromTail n bytes assumed room) (omega arith)
+        (check-most 12 (not (ended bytes)) Tail (fromLong n bytes assumed room) (omega arith)
+        (check-most 12 (long bytes) Long 0 (omega arith) zero-le)))))
 
 -- ---- none is given
-
-none-given : (test : Bool) (refusal : Refusal) (rest : ℕ) → check test refusal rest ≡ 0 → (test ≡ false) × (rest ≡ 0)
-none-given test refusal rest = check-passed test refusal rest 0 (refused-number refusal)
 
 -- what the search may rely on
 pub record Taken (n : ℕ) (bytes assumed : List ℕ) (room : ℕ) : Type 0 where
@@ -158,11 +151,11 @@ pub record Taken (n : ℕ) (bytes assumed : List ℕ) (room : ℕ) : Type 0 wher
 
 pub taken : (n : ℕ) (bytes assumed : List ℕ) (room : ℕ) → askRefusal n bytes assumed room ≡ 0 → Taken n bytes assumed room
 taken n bytes assumed room e =
-    let vars = none-given (ltb variablesMost n) Vars (fromSize n bytes assumed room) e in
-    let size = none-given (ltb hardBytesMost (length bytes) || ltb assumedMost (length assumed)) Size (fromRoom n bytes assumed room) (vars .1) in
+    let vars = check-none (ltb variablesMost n) Vars (fromSize n bytes assumed room) e in
+    let size = check-none (ltb hardBytesMost (length bytes) || ltb assumedMost (length assumed)) Size (fromRoom n bytes assumed room) (vars .1) in
     let sizes = neither (ltb hardBytesMost (length bytes)) (ltb assumedMost (length assumed)) (size .0) in
-    let space = none-given (ltb room n) Room (fromLiteral n bytes assumed room) (size .1) in
-    let literal = none-given (offends (noClauseByte n) bytes || offends (noLiteral n) assumed) Literal (fromTail n bytes assumed room) (space .1) in
+    let space = check-none (ltb room n) Room (fromLiteral n bytes assumed room) (size .1) in
+    let literal = check-none (offends (noClauseByte n) bytes || offends (noLiteral n) assumed) Literal (fromTail n bytes assumed room) (space .1) in
     let fine = neither (offends (noClauseByte n) bytes) (offends (noLiteral n) assumed) (literal .0) in
     record {
       variables = ltb-false variablesMost n (vars .0);

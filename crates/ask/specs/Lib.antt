@@ -1,3 +1,3 @@
 -- What an ask promises, and what its parts do.
 pub mod Asking
-pub mod Starting
+pub mod Checking

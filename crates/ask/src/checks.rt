@@ -9,7 +9,7 @@ use setups::long_place;
 use setups::tail_place;
 ghost use mathlib.Core.Path.{_≡_};
 ghost use Rattle.setups.specs.Ask.{askRefusal};
-ghost use Rattle.ask.specs.Starting.{refusalOf};
+ghost use Rattle.ask.specs.Checking.{refusalOf};
 
 // Passed, or refused.
 pub enum Checked {

@@ -1,17 +1,19 @@
 // Ask: is there a model of some clauses and assumed literals (document 01, "One ask")? The answer is the first model in order, with
 // the visit count of the whole search; or that there is none; or a refusal, which writes nothing.
 mod checks;
-mod values;
 
 use checks::Checked;
 use checks::first_refusal;
 use search::Outcome;
 use search::visit;
 use setups::Refusal;
-use values::start;
-use values::write_model;
+use setups::Values;
+use setups::opening;
 ghost use mathlib.Core.Path.{_≡_};
-ghost use lib.ListN.{length};
+ghost use mathlib.Core.List.{_++_};
+ghost use Prim.Native.Nat.{_≤_};
+ghost use lib.ListN.{length, take, drop};
+ghost use Rattle.setups.specs.Limits.{variablesMost};
 ghost use Rattle.setups.specs.Searching;
 ghost use Rattle.setups.specs.Ask.{askClauses, askRefusal, found};
 ghost use Rattle.ask.specs.Asking.{answered, Asks};
@@ -23,13 +25,25 @@ pub enum Asked {
     Refused(Refusal),
 }
 
+// Writes the model: a byte for each of `count` variables; places beyond stay as they were.
+fn write_model(model: &mut [u8], values: Values, count: usize)
+    requires { ⌜ (count ≤ variablesMost) × (count ≤ length (now model)) ⌝ }
+    ensures { λ _. ⌜ now (model .exit) ≡ take count values ++ drop count (now (model .entry)) ⌝ }
+{
+    let mut i = 0;
+    while i < count {
+        model[i] = values[i];
+        i += 1;
+    }
+}
+
 // The ask that no check refuses: the search from the first visit on.
 fn answer(count: u32, clauses: &[u8], assumed: &[u8], budget: u32, model: &mut [u8]) -> Asked
     requires { ⌜ askRefusal count (now clauses) (now assumed) (length (now model)) ≡ 0 ⌝ }
     ensures { λ r. ⌜ answered r (now (model .exit)) ≡ found count budget (now (model .entry)) (Searching.search count (askClauses (now (clauses .entry)) (now (assumed .entry)))) ⌝ }
 {
     let variables = count as usize;
-    let end = visit(start(variables), clauses, b"", assumed, 0, budget);
+    let end = visit(opening(count), clauses, b"", assumed, 0, budget);
     let outcome = end.outcome;
     match outcome {
         Outcome::Model => {

@@ -6,6 +6,7 @@ use crate::fields::EMPTY_RUN;
 use crate::fields::NUMBER_DIGITS;
 use crate::fields::SET_DIGITS;
 use crate::fields::SPACE;
+use frames::digit_of;
 use libc::STDOUT_FILENO;
 use sets::Set;
 use setups::Refusal;
@@ -65,16 +66,6 @@ pub fn put_no_call(out: &mut Output, at: usize) -> usize {
     put(out, at, NO_CALL)
 }
 
-// The last digit of a value.
-fn digit_of(value: u64) -> u8 {
-    let digit = (value % DIGITS) as u8;
-    if digit < 10 {
-        b'0' + digit
-    } else {
-        b'A' + digit - 10
-    }
-}
-
 // Puts the last digits of a value, so many of its sixteen, the high one first.
 fn put_digits(out: &mut Output, at: usize, value: u64, digits: usize) -> usize
     requires { ⌜ digits ≤ 16 ⌝ }
@@ -83,7 +74,8 @@ fn put_digits(out: &mut Output, at: usize, value: u64, digits: usize) -> usize
     let mut left = digits;
     while 0 < left {
         left -= 1;
-        next = put(out, next, digit_of(value >> (DIGIT_BITS * left)));
+        let digit = (value >> (DIGIT_BITS * left)) % DIGITS;
+        next = put(out, next, digit_of(digit as u8));
     }
     next
 }

@@ -3,6 +3,8 @@
 use crate::places::BYTES_MOST;
 use crate::places::SETS_MOST;
 use bytes::scan::find;
+use frames::digit_value;
+use frames::is_digit;
 use sets::Set;
 ghost use Prim.Native.Nat.{_<_, _≤_};
 
@@ -22,16 +24,13 @@ pub const EMPTY_RUN: u8 = b'-';
 const NO_LETTER: u8 = 0;
 
 // How many values a digit, a byte and a number have, and fifteen digits, after which one more fits 64 bits.
-pub const DIGITS: u64 = 0x10;
+pub const DIGITS: u64 = frames::DIGITS as u64;
 
 const BYTES: u64 = 0x100;
 
 const NUMBERS: u64 = 0x1_0000_0000;
 
 const FIFTEEN_DIGITS: u64 = 0x1000_0000_0000_0000;
-
-// The value of a byte that is no digit.
-const NO_DIGIT: u8 = 0x10;
 
 // What follows the first space; nothing where there is none.
 fn after_space(line: &[u8]) -> &[u8] {
@@ -76,17 +75,9 @@ pub fn letter(line: &[u8]) -> u8 {
     }
 }
 
-fn digit_value(byte: u8) -> u8 {
-    match byte {
-        b'0'..=b'9' => byte - b'0',
-        b'A'..=b'F' => byte - b'A' + 10,
-        _ => NO_DIGIT,
-    }
-}
-
 fn all_digits(text: &[u8]) -> bool {
     for i in 0..text.len() {
-        if digit_value(text[i]) == NO_DIGIT {
+        if !is_digit(text[i]) {
             return false;
         }
     }

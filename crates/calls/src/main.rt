@@ -15,15 +15,13 @@ use answers::put;
 use answers::put_no_call;
 use answers::write_out;
 use bytes::scan::find;
+use frames::LINE_FEED;
 use libc::STDIN_FILENO;
 
 // How many bytes of input are taken at the most: 2 MiB.
 const INPUT_MOST: usize = 0x20_0000;
 
 type Input = [u8; INPUT_MOST];
-
-// What ends each line.
-const LINE_FEED: u8 = b'\n';
 
 // Puts the line that answers a line.
 fn answer(line: &[u8], out: &mut Output, at: usize) -> usize {

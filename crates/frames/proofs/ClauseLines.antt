@@ -1,18 +1,20 @@
 -- The lines of a buffer's clauses: clause by clause, how long they are, and how they are stored.
 use mathlib.Core.Path.{_≡_, refl, sym, ap, _∙_}
 use mathlib.Core.Logic.{_≢_}
-use mathlib.Core.Bool.{true, true≢false}
+use mathlib.Core.Bool.{true}
 use mathlib.Core.List.{List, [], _∷_, _++_, append-assoc}
 use Prim.Native.Nat.{ℕ, zero, suc, _+_, _*_, _≤_, _<_}
 use native.Mathlib.Nat.{zero-add}
 use native.Mathlib.Numerals.{add-one, add-two}
 use native.Mathlib.Omega.{arith}
-use lib.Dec.{eqb·suc-zero}
 use lib.ListN.{length, getD, drop, set, length-append, length-drop, drop-of-length-le}
-use lib.Seq.{sets, drop-cons, drop-drop, drop-nil}
+use lib.Seq.{sets, drop-drop, drop-nil}
+use Rattle.numbers.proofs.Places.{front}
+use Rattle.sets.proofs.Deciding.{T-true}
 use Rattle.setups.specs.Clauses.{push, clauses}
 use Rattle.setups.specs.Refusals.{ended}
-use Rattle.setups.proofs.CheckLaws.{settings-length, settings-end, settings-literal}
+use Rattle.setups.proofs.Truth.{literal-goes-on}
+use Rattle.setups.proofs.CheckLaws.{push-length}
 use Rattle.frames.specs.Digits.{digits}
 use Rattle.frames.specs.Frames.{lineFeed, line, headerKind, hardKind, softKind, endKind}
 use Rattle.frames.specs.Writing.{clauseLines, written, literalCount, textLength, firstClause}
@@ -33,13 +35,6 @@ lines-length kind (c ∷ cs) =
     let rest = lines-length kind cs in
     length-append (line (kind ∷ c)) (clauseLines kind cs) ∙ omega (arith, line-length (kind ∷ c))
 
--- a 0 ends a clause, a literal ends none
-pub count-end : (b : ℕ) → b ≡ 0 → (tail : List ℕ) → length (clauses (b ∷ tail)) ≡ suc (length (clauses tail))
-count-end b e tail = omega (arith, settings-length (b ∷ tail), settings-length tail, settings-end b e tail)
-
-pub count-literal : (b : ℕ) → b ≢ 0 → (tail : List ℕ) → length (clauses (b ∷ tail)) ≡ length (clauses tail)
-count-literal b h tail = omega (arith, settings-length (b ∷ tail), settings-length tail, settings-literal b h tail)
-
 -- ---- the first clause of bytes that end in 0
 
 pub first-end : (b : ℕ) (bytes : List ℕ) → b ≡ 0 → firstClause (b ∷ bytes) ≡ []
@@ -49,34 +44,31 @@ pub first-literal : (b : ℕ) (bytes : List ℕ) → b ≢ 0 → firstClause (b 
 first-literal zero bytes h = absurd (h refl)
 first-literal (suc b) bytes h = refl
 
-pub literal-goes-on : (b : ℕ) → ¬ (ended (suc b ∷ []) ≡ true)
-literal-goes-on b e = true≢false (sym e ∙ eqb·suc-zero b)
-
 pub record First (bytes : List ℕ) : Type 0 where
   pub inside : length (firstClause bytes) < length bytes
   pub splits : clauses bytes ≡ firstClause bytes ∷ clauses (drop (suc (length (firstClause bytes))) bytes)
 
 pub first-of : (bytes : List ℕ) (b : ℕ) → ended (b ∷ bytes) ≡ true → First (b ∷ bytes)
 first-of [] zero e = record { inside = omega arith; splits = refl }
-first-of [] (suc b) e = absurd (literal-goes-on b e)
+first-of [] (suc b) e = absurd (literal-goes-on b (T-true (ended (suc b ∷ [])) .1 e))
 first-of (d ∷ bytes) zero e = record { inside = omega arith; splits = refl }
 first-of (d ∷ bytes) (suc b) e =
     let rest = first-of bytes d e in
     record { inside = omega (arith, rest .inside); splits = ap (push (suc b)) (rest .splits) }
 
-one-literal-more : (b : ℕ) (cs : List (List ℕ)) (c : List ℕ) (rest : List (List ℕ)) → cs ≡ c ∷ rest → (literalCount (push b cs) ≡ suc (literalCount cs)) × (length (push b cs) ≡ length cs)
-one-literal-more b cs c rest e = (rw e (omega arith), rw e)
+one-literal-more : (b : ℕ) (cs : List (List ℕ)) (c : List ℕ) (rest : List (List ℕ)) → cs ≡ c ∷ rest → literalCount (push b cs) ≡ suc (literalCount cs)
+one-literal-more b cs c rest e = rw e (omega arith)
 
 -- every byte is a literal of some clause, or ends one
 pub literals-and-ends : (bytes : List ℕ) → ended bytes ≡ true → literalCount (clauses bytes) + length (clauses bytes) ≡ length bytes
 literals-and-ends [] e = refl
 literals-and-ends (zero ∷ []) e = refl
 literals-and-ends (zero ∷ d ∷ bytes) e = let rest = literals-and-ends (d ∷ bytes) e in omega arith
-literals-and-ends (suc b ∷ []) e = absurd (literal-goes-on b e)
+literals-and-ends (suc b ∷ []) e = absurd (literal-goes-on b (T-true (ended (suc b ∷ [])) .1 e))
 literals-and-ends (suc b ∷ d ∷ bytes) e =
     let rest = literals-and-ends (d ∷ bytes) e in
     let more = one-literal-more (suc b) (clauses (d ∷ bytes)) _ _ (first-of bytes d e .splits) in
-    omega (arith, more .0, more .1)
+    omega (arith, more, push-length (suc b) (clauses (d ∷ bytes)))
 
 -- bytes that end in 0 do so from every place on
 pub ended-drop : (bytes : List ℕ) (i : ℕ) → ended bytes ≡ true → ended (drop i bytes) ≡ true
@@ -93,15 +85,12 @@ kind-stored text after bytes at kind e = rw (e, add-two at)
 -- then the literals: those from place i on are still to be stored
 
 module _ (bytes : List ℕ) (i : ℕ) (l : i < length bytes) where
-  here : drop i bytes ≡ getD bytes i 0 ∷ drop (i + 1) bytes
-  here = rw (add-one, drop-cons bytes i 0 l)
-
   -- the clause ends here
   pub no-literal : getD bytes i 0 ≡ 0 → firstClause (drop i bytes) ≡ []
-  no-literal z = ap firstClause here ∙ first-end (getD bytes i 0) (drop (i + 1) bytes) z
+  no-literal z = ap firstClause (front bytes i l) ∙ first-end (getD bytes i 0) (drop (i + 1) bytes) z
 
   pub a-literal : getD bytes i 0 ≢ 0 → firstClause (drop i bytes) ≡ getD bytes i 0 ∷ firstClause (drop (i + 1) bytes)
-  a-literal h = ap firstClause here ∙ first-literal (getD bytes i 0) (drop (i + 1) bytes) h
+  a-literal h = ap firstClause (front bytes i l) ∙ first-literal (getD bytes i 0) (drop (i + 1) bytes) h
 
   -- one is stored, the others are still to be
   pub literal-stored : (text after : List ℕ) (to : ℕ) → getD bytes i 0 ≢ 0 → after ≡ sets text to (digits (getD bytes i 0 ∷ [])) → sets after (to + 2) (line (firstClause (drop (i + 1) bytes))) ≡ sets text to (line (firstClause (drop i bytes)))
@@ -115,7 +104,7 @@ module _ (bytes : List ℕ) (i : ℕ) (l : i < length bytes) where
 
   module _ (e : ended bytes ≡ true) where
     next-clause : First (drop i bytes)
-    next-clause = rw here (first-of (drop (i + 1) bytes) (getD bytes i 0) (let d = ended-drop bytes i e in rw here at d))
+    next-clause = rw (front bytes i l) (first-of (drop (i + 1) bytes) (getD bytes i 0) (let d = ended-drop bytes i e in rw (front bytes i l) at d))
 
     pub clause-inside : i + length (firstClause (drop i bytes)) < length bytes
     clause-inside = omega (arith, next-clause .inside, length-drop i bytes)

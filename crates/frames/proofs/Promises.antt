@@ -8,10 +8,11 @@ use native.Mathlib.Omega.{arith}
 use borrow.Author.Tests.{eqb-true, ltb-false}
 use lib.Dec.{eqb, ltb}
 use lib.ListN.{length, getD}
-use Rattle.sets.proofs.Deciding.{cond-case}
+use Rattle.sets.proofs.Deciding.{cond-case, neither}
 use Rattle.setups.specs.declared.Refusal.{Refusal}
-use Rattle.setups.specs.declared.Refusal.the-variants.{Vars, Size, Work, Literal, Tail, Long, Softs, TooMany, List as NotAList, Spent, Frame, Room}
-use Rattle.setups.specs.Refusals.{numberOf, finished, check}
+use Rattle.setups.specs.declared.Refusal.the-variants.{Size, Frame, Room}
+use Rattle.setups.specs.Refusals.{finished, check}
+use Rattle.setups.proofs.Refusals.{number-only, refused-number, check-none}
 use Rattle.frames.specs.declared.reading.Reading.{Reading}
 use Rattle.frames.specs.declared.reading.Reading.the-variants.{Read, Refused}
 use Rattle.frames.specs.declared.writing.Writing.{Writing}
@@ -22,7 +23,6 @@ use Rattle.frames.specs.Writing.{written, textLength}
 use Rattle.frames.specs.Read.{textMost, ReadResult, readRefusal, readingOf, readResult, Reads}
 use Rattle.frames.specs.Write.{WriteResult, writingOf, writeResult, Writes}
 use Rattle.frames.proofs.Answers.{fillsWith, accepts}
-use Rattle.frames.proofs.Refusing.{refusal-counts, passed, both}
 
 -- ---- Read accepts exactly the good texts that are not too long and fit the buffers, and gives exactly what they say
 
@@ -42,9 +42,9 @@ module _ (text hard soft : List ℕ) where
       let tight = ltb (length hard) (length (hardOf (judge text))) || ltb (length soft) (length (softOf (judge text))) in
       let room = check tight Room 0 in
       let frame = check (isBad (judge text)) Frame room in
-      let p₁ = passed (ltb textMost (length text)) Size frame e in
-      let p₂ = passed (isBad (judge text)) Frame room (p₁ .1) in
-      let p₃ = both (ltb (length hard) (length (hardOf (judge text)))) (ltb (length soft) (length (softOf (judge text)))) (passed tight Room 0 (p₂ .1) .0) in
+      let p₁ = check-none (ltb textMost (length text)) Size frame e in
+      let p₂ = check-none (isBad (judge text)) Frame room (p₁ .1) in
+      let p₃ = neither (ltb (length hard) (length (hardOf (judge text)))) (ltb (length soft) (length (softOf (judge text)))) (check-none tight Room 0 (p₂ .1) .0) in
       let x = good-text (judge text) (p₂ .0) in (
         ltb-false textMost (length text) (p₁ .0),
         record {
@@ -65,40 +65,18 @@ module _ (text hard soft : List ℕ) where
 
 -- ---- no second result
 
--- a refusal by its number
-refusals : List Refusal
-refusals = Vars ∷ Vars ∷ Size ∷ Work ∷ Literal ∷ Tail ∷ Long ∷ Softs ∷ TooMany ∷ NotAList ∷ Spent ∷ Frame ∷ Room ∷ []
-
-refusal-back : (refusal : Refusal) → getD refusals (numberOf refusal) Vars ≡ refusal
-unfolding refusals
-refusal-back Vars = refl
-refusal-back Size = refl
-refusal-back Work = refl
-refusal-back Literal = refl
-refusal-back Tail = refl
-refusal-back Long = refl
-refusal-back Softs = refl
-refusal-back TooMany = refl
-refusal-back NotAList = refl
-refusal-back Spent = refl
-refusal-back Frame = refl
-refusal-back Room = refl
-
-refusal-only : (x y : Refusal) → numberOf x ≡ numberOf y → x ≡ y
-refusal-only x y e = sym (refusal-back x) ∙ ap (λ (k : ℕ). getD refusals k Vars) e ∙ refusal-back y
-
 reading-only : (a b : Reading) (h₁ s₁ h₂ s₂ : List ℕ) → readingOf a h₁ s₁ ≡ readingOf b h₂ s₂ → a ≡ b
 reading-only (Read c h s) (Read d k t) h₁ s₁ h₂ s₂ e =
     λ i. Read (e i .count) (e i .hardFilled) (e i .softFilled)
-reading-only (Read c h s) (Refused y) h₁ s₁ h₂ s₂ e = absurd (refusal-counts y (sym (ap (λ (r : ReadResult). r .number) e)))
-reading-only (Refused x) (Read d k t) h₁ s₁ h₂ s₂ e = absurd (refusal-counts x (ap (λ (r : ReadResult). r .number) e))
-reading-only (Refused x) (Refused y) h₁ s₁ h₂ s₂ e = ap Refused (refusal-only x y (ap (λ (r : ReadResult). r .number) e))
+reading-only (Read c h s) (Refused y) h₁ s₁ h₂ s₂ e = absurd (refused-number y (sym (ap (λ (r : ReadResult). r .number) e)))
+reading-only (Refused x) (Read d k t) h₁ s₁ h₂ s₂ e = absurd (refused-number x (ap (λ (r : ReadResult). r .number) e))
+reading-only (Refused x) (Refused y) h₁ s₁ h₂ s₂ e = ap Refused (number-only x y (ap (λ (r : ReadResult). r .number) e))
 
 writing-only : (a b : Writing) (t₁ t₂ : List ℕ) → writingOf a t₁ ≡ writingOf b t₂ → a ≡ b
 writing-only (write.Written n) (write.Written m) t₁ t₂ e = λ i. write.Written (e i .filled)
-writing-only (write.Written n) (write.Refused y) t₁ t₂ e = absurd (refusal-counts y (sym (ap (λ (r : WriteResult). r .number) e)))
-writing-only (write.Refused x) (write.Written m) t₁ t₂ e = absurd (refusal-counts x (ap (λ (r : WriteResult). r .number) e))
-writing-only (write.Refused x) (write.Refused y) t₁ t₂ e = ap write.Refused (refusal-only x y (ap (λ (r : WriteResult). r .number) e))
+writing-only (write.Written n) (write.Refused y) t₁ t₂ e = absurd (refused-number y (sym (ap (λ (r : WriteResult). r .number) e)))
+writing-only (write.Refused x) (write.Written m) t₁ t₂ e = absurd (refused-number x (ap (λ (r : WriteResult). r .number) e))
+writing-only (write.Refused x) (write.Refused y) t₁ t₂ e = ap write.Refused (number-only x y (ap (λ (r : WriteResult). r .number) e))
 
 reading-buffers : (a : Reading) (h s : List ℕ) → (readingOf a h s .hard ≡ h) × (readingOf a h s .soft ≡ s)
 reading-buffers (Read count hardFilled softFilled) h s = (refl, refl)
@@ -136,7 +114,7 @@ pub read-refuses-not : ((text hard soft : List ℕ) → (refusal : Refusal) × R
 unfolding smallText between judge readResult
 read-refuses-not program =
     let p = program smallText [] (8 ∷ 9 ∷ []) in
-    refusal-counts (p .0) (ap (λ (r : ReadResult). r .number) (p .1))
+    refused-number (p .0) (ap (λ (r : ReadResult). r .number) (p .1))
 
 -- a Read that writes nothing
 pub read-idles-not : ((text hard soft : List ℕ) → (answer : Reading) × Reads text hard soft answer hard soft) → ⊥
@@ -151,7 +129,7 @@ pub write-refuses-not : ((n : ℕ) (hard soft text : List ℕ) → (refusal : Re
 unfolding written digitOf textLength writeResult
 write-refuses-not program =
     let p = program 0 [] [] (0 ∷ 0 ∷ 0 ∷ 0 ∷ 0 ∷ 0 ∷ 0 ∷ 0 ∷ []) in
-    refusal-counts (p .0) (ap (λ (r : WriteResult). r .number) (p .1))
+    refused-number (p .0) (ap (λ (r : WriteResult). r .number) (p .1))
 
 -- a Write that writes nothing
 pub write-idles-not : ((n : ℕ) (hard soft text : List ℕ) → (answer : Writing) × Writes n hard soft text answer text) → ⊥

@@ -11,9 +11,11 @@ use lib.Dec.{ltb, leb}
 use lib.ListN.{length, take, drop}
 use lib.Seq.{take-at}
 use Rattle.sets.specs.Tests.{all}
+use Rattle.sets.proofs.Deciding.{neither, T-true}
 use Rattle.setups.specs.Limits.{literalsMost}
 use Rattle.setups.specs.Clauses.{push, clauses}
 use Rattle.setups.specs.Refusals.{finished, ended, someLong}
+use Rattle.setups.proofs.Truth.{literal-goes-on}
 use Rattle.setups.proofs.CheckLaws.{settings-length}
 use Rattle.frames.specs.Frames.{line, lines, lineBytes, headerKind, hardKind, softKind, endKind, frameMost, Frame, header, hard, soft, end, frame}
 use Rattle.frames.specs.Texts.{Sofar, fresh, under, ending, next, good, follow, judge}
@@ -21,9 +23,9 @@ use Rattle.frames.specs.Writing.{Bytes, clauseLines, written, textLength
 use Rattle.frames.specs.Read.{textMost, readResult}
 use Rattle.frames.specs.Write.{WriteResult, writeResult}
 use Rattle.frames.proofs.Hexadecimal.{digit-back, byte-back, digit-of-no-feed}
-use Rattle.frames.proofs.ClauseLines.{literal-goes-on, first-of, literals-and-ends, measured}
+use Rattle.frames.proofs.ClauseLines.{first-of, literals-and-ends, measured}
 use Rattle.frames.proofs.Answers.{fillsWith, accepts}
-use Rattle.frames.proofs.Refusing.{both, Fine, fine, not-refused, finishes}
+use Rattle.frames.proofs.Refusing.{Fine, fine, not-refused, finishes}
 
 -- ---- a line comes back
 
@@ -85,7 +87,7 @@ unfolding flat
 flat-clauses [] e = refl
 flat-clauses (zero ∷ []) e = refl
 flat-clauses (zero ∷ d ∷ bytes) e = ap (λ (r : List ℕ). 0 ∷ r) (flat-clauses (d ∷ bytes) e)
-flat-clauses (suc b ∷ []) e = absurd (literal-goes-on b e)
+flat-clauses (suc b ∷ []) e = absurd (literal-goes-on b (T-true (ended (suc b ∷ [])) .1 e))
 flat-clauses (suc b ∷ d ∷ bytes) e =
     flat-push (suc b) (clauses (d ∷ bytes)) _ _ (first-of bytes d e .splits) ∙ ap (λ (r : List ℕ). suc b ∷ r) (flat-clauses (d ∷ bytes) e)
 
@@ -111,7 +113,7 @@ clauses-literals (suc b ∷ bytes) h = push-literals b (clauses bytes) (h 0) (cl
 clauses-fit : (cs : List (List ℕ)) → Each Literals cs → someLong cs ≡ false → Each Clause cs
 clauses-fit [] h e = tt
 clauses-fit (c ∷ cs) h e =
-    let p = both (ltb literalsMost (length c)) (someLong cs) e in
+    let p = neither (ltb literalsMost (length c)) (someLong cs) e in
     (record { literals = h .0 .literals; bytes = h .0 .bytes; short = ltb-false literalsMost (length c) (p .0) }, clauses-fit cs (h .1) (p .1))
 
 -- ---- the fold over the lines of clauses
@@ -173,14 +175,14 @@ module _ (count : ℕ) (hards softs : List ℕ) (b : count < 256) (h : Each Clau
 module _ (count : ℕ) (hards softs : List ℕ) (f : Fine count hards softs) where
   pub text-most : textLength hards softs ≤ writtenMost
   unfolding textLength
-  text-most = omega (arith, literals-and-ends hards (f .hard-ended), literals-and-ends softs (f .soft-ended), f .hard-size, f .soft-size, f .settings-few, settings-length softs)
+  text-most = omega (arith, literals-and-ends hards (f .in-clauses .hard-ended), literals-and-ends softs (f .in-clauses .soft-ended), f .hard-size, f .soft-size, f .in-clauses .settings-few, settings-length softs)
 
   pub text-back : Bytes hards → Bytes softs → judge (written count hards softs) ≡ good count hards softs
   text-back h s =
       written-good count hards softs (omega (arith, f .variables))
-      (clauses-fit (clauses hards) (clauses-literals hards h) (f .hard-long))
-      (clauses-fit (clauses softs) (clauses-literals softs s) (f .soft-long))
-      (f .hard-ended) (f .soft-ended)
+      (clauses-fit (clauses hards) (clauses-literals hards h) (f .in-clauses .hard-long))
+      (clauses-fit (clauses softs) (clauses-literals softs s) (f .in-clauses .soft-long))
+      (f .in-clauses .hard-ended) (f .in-clauses .soft-ended)
 
 -- Where Write took a setup, Read takes what it wrote, whatever the text buffer, and fills buffers that hold it with the same setup.
 pub round-trip : (count : ℕ) (hards softs text hard′ soft′ : List ℕ) → Bytes hards → Bytes softs → writeResult count hards softs text .number ≡ finished

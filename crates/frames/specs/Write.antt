@@ -1,16 +1,13 @@
 -- What Write gives back, for all arguments (document 01, "Lines of hexadecimal" and "What comes back when it can't").
 use mathlib.Core.Path.{_≡_, refl}
-use mathlib.Core.Bool.{cond, _||_, not}
+use mathlib.Core.Bool.{cond, _||_}
 use mathlib.Core.List.{List, [], _∷_}
 use Prim.Native.Nat.{ℕ}
 use lib.Dec.{ltb, eqb}
 use lib.ListN.{length}
-use Rattle.setups.specs.declared.Refusal.the-variants.{Vars, Size, Literal, Tail, Long, Softs, Room}
-use Rattle.setups.specs.Limits.{variablesMost, hardBytesMost, softBytesMost, settingsMost}
-use Rattle.setups.specs.Setups.{settings}
-use Rattle.setups.specs.Refusals.{numberOf, finished, check, noClauseByte, offends, ended, long}
-use Rattle.frames.specs.declared.writing.Judged.{Judged}
-use Rattle.frames.specs.declared.writing.Judged.the-variants.{Taken, Unfit}
+use Rattle.setups.specs.declared.Refusal.the-variants.{Vars, Size, Room}
+use Rattle.setups.specs.Limits.{variablesMost, hardBytesMost, softBytesMost}
+use Rattle.setups.specs.Refusals.{numberOf, finished, check, clausesRefusal}
 use Rattle.frames.specs.declared.writing.Writing.{Writing}
 use Rattle.frames.specs.declared.writing.Writing.the-variants.{Written, Refused}
 use Rattle.frames.specs.Digits.{digitOf}
@@ -32,16 +29,7 @@ writingOf (Refused refusal) text = record { number = numberOf refusal; filled = 
 abbrev pub setupRefusal : ℕ → List ℕ → List ℕ → ℕ → ℕ
 setupRefusal n hard soft rest =
     check (ltb variablesMost n) Vars
-    (check (ltb hardBytesMost (length hard) || ltb softBytesMost (length soft)) Size
-    (check (offends (noClauseByte n) hard || offends (noClauseByte n) soft) Literal
-    (check (not (ended hard) || not (ended soft)) Tail
-    (check (long hard || long soft) Long
-    (check (ltb settingsMost (length (settings soft))) Softs rest)))))
-
--- what the code judges of the setup, before what comes after
-abbrev pub judgedOf : Judged → ℕ → ℕ
-judgedOf Taken rest = rest
-judgedOf (Unfit refusal) rest = numberOf refusal
+    (check (ltb hardBytesMost (length hard) || ltb softBytesMost (length soft)) Size (clausesRefusal n hard soft rest))
 
 -- 1, 2, 4, 5, 6, 7, 12; 0 where none is given
 abbrev pub writeRefusal : ℕ → List ℕ → List ℕ → ℕ → ℕ

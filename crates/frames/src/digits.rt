@@ -6,6 +6,9 @@ ghost use lib.Seq.{sets};
 ghost use mathlib.Core.List.{[], _∷_};
 ghost use Rattle.frames.specs.Digits.{isDigit, digitValue, digitOf, byteOf, digits, bytesOf};
 
+// How many values a digit has.
+pub const DIGITS: u8 = 0x10;
+
 // The byte is one of 0-9 and A-F.
 pub fn is_digit(byte: u8) -> bool
     ensures { λ r. ⌜ r ≡ isDigit byte ⌝ }
@@ -17,7 +20,7 @@ pub fn is_digit(byte: u8) -> bool
 }
 
 // A digit's value; 0 where the byte is no digit.
-fn digit_value(byte: u8) -> u8
+pub fn digit_value(byte: u8) -> u8
     ensures { λ r. ⌜ r ≡ digitValue byte ⌝ }
 {
     match byte {
@@ -28,7 +31,7 @@ fn digit_value(byte: u8) -> u8
 }
 
 // The digit of a value.
-fn digit_of(value: u8) -> u8
+pub fn digit_of(value: u8) -> u8
     requires { ⌜ value < 16 ⌝ }
     ensures { λ r. ⌜ r ≡ digitOf value ⌝ }
 {
@@ -44,7 +47,7 @@ pub fn byte_at(text: &[u8], at: usize) -> u8
     requires { ⌜ at + 1 < length (now text) ⌝ }
     ensures { λ r. ⌜ r ≡ byteOf (getD (now (text .entry)) at 0) (getD (now (text .entry)) (at + 1) 0) ⌝ }
 {
-    digit_value(text[at]) * 16 + digit_value(text[at + 1])
+    digit_value(text[at]) * DIGITS + digit_value(text[at + 1])
 }
 
 // Writes the two digits of a byte at a place of the text.
@@ -52,8 +55,8 @@ pub fn put_byte(text: &mut [u8], at: usize, byte: u8)
     requires { ⌜ at + 1 < length (now text) ⌝ }
     ensures { λ _. ⌜ now (text .exit) ≡ sets (now (text .entry)) at (digits (byte ∷ [])) ⌝ }
 {
-    text[at] = digit_of(byte / 16);
-    text[at + 1] = digit_of(byte % 16);
+    text[at] = digit_of(byte / DIGITS);
+    text[at + 1] = digit_of(byte % DIGITS);
 }
 
 // How many values one, two and three bytes have.

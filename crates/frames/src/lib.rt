@@ -5,8 +5,13 @@ mod reader;
 mod reading;
 mod writing;
 
+pub use digits::DIGITS;
+pub use digits::digit_of;
+pub use digits::digit_value;
+pub use digits::is_digit;
 pub use digits::put_byte;
 pub use digits::put_set;
+pub use frames::LINE_FEED;
 pub use reading::Reading;
 pub use reading::read;
 pub use writing::Writing;

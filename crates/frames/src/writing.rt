@@ -7,12 +7,11 @@ use crate::frames::HEADER_LINE;
 use crate::frames::LINE_FEED;
 use crate::frames::SOFT;
 use setups::HARD_BYTES_MOST;
+use setups::Judged;
 use setups::Refusal;
 use setups::SOFT_BYTES_MOST;
-use setups::first_bad_literal;
-use setups::long_place;
-use setups::settings_count;
-use setups::tail_place;
+use setups::clause_count;
+use setups::judge_clauses;
 ghost use mathlib.Core.Path.{_≡_};
 ghost use mathlib.Core.Bool.{true};
 ghost use mathlib.Core.List.{_∷_};
@@ -22,14 +21,13 @@ ghost use lib.Seq.{sets};
 ghost use Rattle.setups.specs.Limits.{variablesMost, hardBytesMost, softBytesMost};
 ghost use Rattle.setups.specs.Clauses.{clauses};
 ghost use Rattle.setups.specs.Refusals.{ended};
+ghost use Rattle.setups.specs.Checks.{judgedOf};
 ghost use Rattle.frames.specs.Frames.{line};
 ghost use Rattle.frames.specs.Writing.{clauseLines, written, textLength, clauseAt};
-ghost use Rattle.frames.specs.Write.{setupRefusal, judgedOf, Writes};
+ghost use Rattle.frames.specs.Write.{setupRefusal, Writes};
 
-// The most variables and the most settings, in the types that they are compared in.
+// The most variables, in the type that they are counted in.
 const VARIABLES_MOST: u32 = numbers::VARIABLES_MOST as u32;
-
-const SETTINGS_MOST: usize = sets::SETTINGS_MOST as usize;
 
 // Writes the line of the clause that begins at `from`, by its kind, and tells how many literals it has.
 fn put_clause(text: &mut [u8], at: usize, kind: u8, bytes: &[u8], from: usize) -> usize
@@ -63,21 +61,6 @@ fn put_clauses(text: &mut [u8], at: usize, kind: u8, bytes: &[u8]) -> usize
     to
 }
 
-// How many clauses a buffer has: each 0 ends one.
-fn clause_count(bytes: &[u8]) -> usize
-    ensures { λ r. ⌜ r ≡ length (clauses (now (bytes .entry))) ⌝ }
-{
-    let mut count = 0;
-    let mut i = 0;
-    while i < bytes.len() {
-        if bytes[i] == 0 {
-            count += 1;
-        }
-        i += 1;
-    }
-    count
-}
-
 // How long the text of a setup is: "2 × literals + 3 × clauses + 8".
 fn text_length(hard: &[u8], soft: &[u8]) -> usize
     requires { ⌜ (length (now hard) ≤ hardBytesMost) × (length (now soft) ≤ softBytesMost) × (ended (now hard) ≡ true) × (ended (now soft) ≡ true) ⌝ }
@@ -102,12 +85,6 @@ fn put_setup(text: &mut [u8], count: u32, hard: &[u8], soft: &[u8])
     text[after_soft + 2] = LINE_FEED;
 }
 
-// Whether a setup can be written at all.
-pub enum Judged {
-    Taken,
-    Unfit(Refusal),
-}
-
 // Judges the setup, whatever the text buffer: the refusals 1, 2, 4, 5, 6, 7.
 fn judge_setup(count: u32, hard: &[u8], soft: &[u8]) -> Judged
     ensures { λ r. ⌜ ((rest : ℕ) → judgedOf r rest ≡ setupRefusal count (now (hard .entry)) (now (soft .entry)) rest) ⌝ }
@@ -121,28 +98,7 @@ fn judge_setup(count: u32, hard: &[u8], soft: &[u8]) -> Judged
     if SOFT_BYTES_MOST < soft.len() {
         return Judged::Unfit(Refusal::Size);
     }
-    if first_bad_literal(count, hard) < hard.len() {
-        return Judged::Unfit(Refusal::Literal);
-    }
-    if first_bad_literal(count, soft) < soft.len() {
-        return Judged::Unfit(Refusal::Literal);
-    }
-    if tail_place(hard) < hard.len() {
-        return Judged::Unfit(Refusal::Tail);
-    }
-    if tail_place(soft) < soft.len() {
-        return Judged::Unfit(Refusal::Tail);
-    }
-    if long_place(hard) < hard.len() {
-        return Judged::Unfit(Refusal::Long);
-    }
-    if long_place(soft) < soft.len() {
-        return Judged::Unfit(Refusal::Long);
-    }
-    if SETTINGS_MOST < settings_count(soft) {
-        return Judged::Unfit(Refusal::Softs);
-    }
-    Judged::Taken
+    judge_clauses(count, hard, soft)
 }
 
 // What Write answers: how many places of the text buffer it filled, or why it can't.

@@ -5,11 +5,11 @@ use mathlib.Core.Bool.{Bool, true, false, true≢false, false≢true}
 use mathlib.Core.List.{List, [], _∷_}
 use Prim.Native.Nat.{ℕ, _+_, _-_, _^_, _≤_, _<_, min}
 use native.Mathlib.Nat.{lt-of-lt-of-le, le-of-eq}
-use native.Mathlib.Numerals.{add-one}
 use native.Mathlib.Omega.{arith}
 use lib.ListN.{length, getD, take, drop, length-drop}
-use lib.Seq.{drop-cons, take-all}
+use lib.Seq.{take-all}
 use lib.Pow.{pow-pos, pow-mono}
+use Rattle.numbers.proofs.Places.{front}
 use Rattle.sets.specs.Sets.{Within}
 use Rattle.sets.specs.Lists.{Listed}
 use Rattle.sets.specs.Turns.{Fine}
@@ -18,10 +18,6 @@ use Rattle.sets.proofs.Deciding.{T-true, T-false}
 use Rattle.sets.proofs.Tests.{fine-iff}
 use Rattle.sets.proofs.Digits.{within-le, in-below, full-in}
 use Rattle.lent.specs.Leads.{Leads}
-
--- the rest from place i on is the set there and the rest from the next place on
-pub front : (list : List ℕ) (i : ℕ) → i < length list → drop i list ≡ getD list i 0 ∷ drop (i + 1) list
-front list i l = rw (add-one i, drop-cons list i 0 l)
 
 -- the part of a slice from place k on is the rest of its list from there
 pub part-rest : (list : List ℕ) (k : ℕ) → take (length list - k) (drop k list) ≡ drop k list

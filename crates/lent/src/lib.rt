@@ -1,4 +1,5 @@
 // Lists of sets that a caller gives or lends: whether one may be taken, copying one out, setting one to zero.
+use sets::EMPTY;
 use sets::Set;
 use sets::full;
 use sets::within;
@@ -66,7 +67,7 @@ pub fn clear(list: &mut [Set])
 {
     let mut i: usize = 0;
     while i < list.len() {
-        list[i] = 0;
+        list[i] = EMPTY;
         i += 1;
     }
 }

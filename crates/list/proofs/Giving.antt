@@ -1,11 +1,11 @@
 -- From the walk at the root to the answer.
 use mathlib.Core.Path.{_≡_, refl}
 use mathlib.Core.Bool.{true, false}
-use mathlib.Core.List.{List, []}
+use mathlib.Core.List.{List, [], _++_}
 use Prim.Native.Nat.{ℕ, _+_, _^_, _≤_, _<_}
 use native.Mathlib.Nat.{not-suc-le-zero}
 use native.Mathlib.Omega.{arith}
-use lib.ListN.{length, take}
+use lib.ListN.{length, take, drop}
 use borrow.Author.Tests.{lt-ltb, le-ltb}
 use Rattle.sets.specs.Lists.{Exactly}
 use Rattle.sets.proofs.Digits.{none-in}
@@ -20,7 +20,7 @@ use Rattle.list.specs.Walking.{Below, Between, Reached, Stands, over, Wa
 use Rattle.list.specs.Answer.{answered, GivesOut}
 use Rattle.list.proofs.Nodes.{root-decided}
 use Rattle.list.proofs.Branches.{some-way-out}
-use Rattle.list.proofs.Overwriting.{over-take, over-room}
+use Rattle.list.proofs.Overwriting.{over-take}
 
 -- below 0 there is no set
 below-none : (g : Setup) → Below g 0 []
@@ -64,10 +64,10 @@ root-met s =
 
 -- the sets that were found in the first places, copied to the list
 says-listed : (ways found places list after : List ℕ) (filled : ℕ) → filled ≡ length ways → length ways ≤ length found → places ≡ over ways found
-    → filled ≤ length list → after ≡ over (take filled places) list → (scratch : List ℕ) → answered (Listed filled) after (zeroed scratch) ≡ givenOut ways list scratch
+    → filled ≤ length list → after ≡ take filled places ++ drop filled list → (scratch : List ℕ) → answered (Listed filled) after (zeroed scratch) ≡ givenOut ways list scratch
 says-listed ways found places list after filled number fits written room copied scratch =
     let k : length ways ≤ length list = omega arith in
-    rw (le-ltb (length list) (length ways) k, copied, number, written, over-take ways found fits, over-room ways list k)
+    rw (le-ltb (length list) (length ways) k, copied, number, written, over-take ways found fits)
 
 -- Where the hard clauses have a model and the walk is through, with one place more than the list has.
 pub record Whole (g : Setup) (list found places : List ℕ) (filled : ℕ) : Type 0 where
@@ -88,7 +88,7 @@ module _ {g : Setup} {list found places : List ℕ} {filled : ℕ} (h : Whole g 
   }
 
   -- it is not, and those found are copied out
-  pub whole-listed : {after : List ℕ} → filled ≤ length list → after ≡ over (take filled places) list → GivesOut g list found (Listed filled) after places
+  pub whole-listed : {after : List ℕ} → filled ≤ length list → after ≡ take filled places ++ drop filled list → GivesOut g list found (Listed filled) after places
   whole-listed {after} l copied = record {
     ways = h .walked .ways;
     exact = below-all g (h .walked .ways) (h .walked .exact);

@@ -1,11 +1,9 @@
 -- Sets written over places.
 use mathlib.Core.Path.{_≡_, refl, ap}
 use mathlib.Core.List.{List, [], _∷_, _++_}
-use Prim.Native.Nat.{ℕ, zero, suc, _+_, _≤_, _<_}
+use Prim.Native.Nat.{ℕ, zero, suc, _≤_, _<_}
 use native.Mathlib.Nat.{not-suc-le-zero, le-of-suc-le-suc}
-use native.Mathlib.Numerals.{add-one}
-use native.Mathlib.Omega.{arith}
-use lib.ListN.{length, getD, take, drop, set}
+use lib.ListN.{length, take, set}
 use Rattle.list.specs.Walking.{over}
 
 -- the places stay as many
@@ -39,19 +37,3 @@ pub over-take : (sets places : List ℕ) → length sets ≤ length places → t
 over-take [] places l = refl
 over-take (S ∷ sets) [] l = absurd (not-suc-le-zero l)
 over-take (S ∷ sets) (P ∷ places) l = ap (λ (list : List ℕ). S ∷ list) (over-take sets places (le-of-suc-le-suc l))
-
--- copying one set more is one store
-over-next : (i : ℕ) (sets places : List ℕ) → i < length sets → i < length places → set (over (take i sets) places) i (getD sets i 0) ≡ over (take (suc i) sets) places
-over-next i [] places l k = absurd (not-suc-le-zero l)
-over-next i (S ∷ sets) [] l k = absurd (not-suc-le-zero k)
-over-next zero (S ∷ sets) (P ∷ places) l k = refl
-over-next (suc i) (S ∷ sets) (P ∷ places) l k = ap (λ (list : List ℕ). S ∷ list) (over-next i sets places (le-of-suc-le-suc l) (le-of-suc-le-suc k))
-
-pub over-copy : (i : ℕ) (sets places : List ℕ) → i < length sets → length sets ≤ length places → set (over (take i sets) places) i (getD sets i 0) ≡ over (take (i + 1) sets) places
-over-copy i sets places l m = rw add-one (over-next i sets places l (omega arith))
-
--- where the sets have room, the places beyond them stay
-pub over-room : (sets places : List ℕ) → length sets ≤ length places → over sets places ≡ sets ++ drop (length sets) places
-over-room [] places l = refl
-over-room (S ∷ sets) [] l = absurd (not-suc-le-zero l)
-over-room (S ∷ sets) (P ∷ places) l = ap (λ (list : List ℕ). S ∷ list) (over-room sets places (le-of-suc-le-suc l))

@@ -1,23 +1,22 @@
 -- What follows from List's promise: no second result meets it, and each answer means what document 01 says.
 use mathlib.Core.Path.{_≡_, refl, sym, ap, _∙_}
 use mathlib.Core.Logic.{_≢_, Iff·trans, Iff·symm}
-use mathlib.Core.Bool.{Bool, true, false, cond, _||_, not}
+use mathlib.Core.Bool.{true, false, cond}
 use mathlib.Core.List.{List, _++_}
-use Prim.Native.Nat.{ℕ, _≤_, _<_, zero-le}
+use Prim.Native.Nat.{ℕ, _≤_, _<_}
 use native.Mathlib.Omega.{arith}
-use lib.Dec.{ltb, leb, eqb}
+use lib.Dec.{ltb, eqb}
 use lib.ListN.{length, drop}
 use lib.Seq.{take-append-seam, drop-append-seam}
 use borrow.Author.Tests.{eqb-true, eqb-false, ltb-true, ltb-false}
 use Rattle.sets.proofs.Deciding.{T-equal, T-true, T-false, cond-case}
 use Rattle.sets.proofs.Lists.{exactly-unique}
-use Rattle.setups.specs.declared.Refusal.{Refusal}
-use Rattle.setups.specs.declared.Refusal.the-variants.{Vars, Size, Work, Literal, Tail, Long, Softs, TooMany}
-use Rattle.setups.specs.Limits.{variablesMost, hardBytesMost, softBytesMost, setsMost, settingsMost}
-use Rattle.setups.specs.Refusals.{numberOf, finished, unmet, check, noClauseByte, offends, ended, long}
-use Rattle.setups.specs.Setups.{Setup, setup, settings, Together, WayOut}
+use Rattle.setups.specs.declared.Refusal.the-variants.{TooMany}
+use Rattle.setups.specs.Refusals.{numberOf, finished, unmet}
+use Rattle.setups.specs.Setups.{Setup, setup, Together, WayOut}
 use Rattle.setups.specs.List.{ListResult, without-list, zeroed, givenOut, listRefusal, Lists}
 use Rattle.setups.proofs.Refusals.{number-only, refused-number, refused-not-unmet}
+use Rattle.setups.proofs.JudgeLaws.{list-most}
 use Rattle.list.specs.declared.Listing.{Listing}
 use Rattle.list.specs.declared.Listing.the-variants.{Listed, Unmet, Refused}
 use Rattle.list.specs.Answer.{answered}
@@ -73,20 +72,6 @@ list-only n hard soft list scratch answer other after zeros later work p q =
 
 -- ---- what each answer means
 
--- the refusals before the search are those up to 7
-small : (test : Bool) (r : Refusal) (rest : ℕ) → numberOf r ≤ 7 → rest ≤ 7 → check test r rest ≤ 7
-small test r rest a b = cond-case (λ (x : ℕ). x ≤ 7) test (λ e. a) (λ e. b)
-
-refusal-small : (n : ℕ) (hard soft : List ℕ) (room scratchRoom : ℕ) → listRefusal n hard soft room scratchRoom ≤ 7
-refusal-small n hard soft room scratchRoom =
-    small (ltb variablesMost n) Vars _ (omega arith)
-    (small (ltb hardBytesMost (length hard) || (ltb softBytesMost (length soft) || ltb setsMost room)) Size _ (omega arith)
-    (small (leb scratchRoom room) Work _ (omega arith)
-    (small (offends (noClauseByte n) hard || offends (noClauseByte n) soft) Literal _ (omega arith)
-    (small (not (ended hard) || not (ended soft)) Tail _ (omega arith)
-    (small (long hard || long soft) Long _ (omega arith)
-    (small (ltb settingsMost (length (settings soft))) Softs 0 (omega arith) zero-le))))))
-
 pub list-means : (n : ℕ) (hard soft list scratch : List ℕ) (r : ListResult) → Lists n hard soft list scratch r
     → Means (setup n hard soft) (listRefusal n hard soft (length list) (length scratch)) list scratch r
 list-means n hard soft list scratch r p = cond-case (λ (x : ListResult). r ≡ x → Meant) (eqb refusal 0) (λ e. searched (eqb-true refusal 0 e)) (λ e. refused (eqb-false refusal 0 e)) (p .says)
@@ -103,7 +88,7 @@ list-means n hard soft list scratch r p = cond-case (λ (x : ListResult). r ≡ 
     refused : refusal ≢ 0 → r ≡ without-list refusal list scratch → Meant
     refused some q =
         let number : r .number ≡ refusal = number-so q in
-        let most = refusal-small n hard soft (length list) (length scratch) in
+        let most = list-most n hard soft (length list) (length scratch) in
         record {
           refused = λ k. q;
           unmet = ((λ k. absurd (let b : ⊥ = omega arith in b)), λ h. absurd (some (h .0)));

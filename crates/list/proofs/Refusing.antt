@@ -1,26 +1,23 @@
--- The refusals before the search: tests over two buffers, and the first that says so.
+-- The refusals before the search: those of the clauses come last.
 use mathlib.Core.Path.{_≡_, refl, sym, _∙_}
-use mathlib.Core.Bool.{Bool, true, false, _||_, true≢false}
-use Prim.Native.Nat.{ℕ, _≤_, _<_}
-use lib.Dec.{ltb}
-use borrow.Author.Tests.{lt-ltb, le-ltb}
+use mathlib.Core.List.{List}
+use Prim.Native.Nat.{ℕ, _≤_}
+use Rattle.setups.specs.declared.judging.Judged.{Judged}
+use Rattle.setups.specs.declared.judging.Judged.the-variants.{Taken, Unfit}
+use Rattle.setups.specs.Limits.{variablesMost}
+use Rattle.setups.specs.Setups.{setup}
+use Rattle.setups.specs.Refusals.{clausesRefusal}
+use Rattle.setups.specs.Checks.{Judges}
+use Rattle.setups.proofs.JudgeLaws.{fine-clauses}
+use Rattle.list.specs.Answer.{Checks}
 
--- A check over one buffer finds `place`, which is below the length exactly where the test `a` says so: one of two buffers offends
--- where the first does,
-pub either-first : {found place size : ℕ} {a : Bool} (b : Bool) → found < size → found ≡ place → ltb place size ≡ a → ltb found size ≡ (a || b)
-either-first {found} {place} {size} {a} b l e t =
-    let s : ltb found size ≡ a = rw e t in
-    s ∙ rw (sym s ∙ lt-ltb found size l)
-
--- and else where the second does.
-pub either-second : {found place size found′ place′ : ℕ} (size′ : ℕ) {a b : Bool} → size ≤ found → found ≡ place → ltb place size ≡ a
-    → found′ ≡ place′ → ltb place′ size′ ≡ b → ltb found′ size′ ≡ (a || b)
-either-second {found} {place} {size} {found′} {place′} size′ {a} {b} l e t f u =
-    let s : ltb found size ≡ a = rw e t in
-    let v : ltb found′ size′ ≡ b = rw f u in
-    v ∙ rw (sym s ∙ le-ltb found size l)
-
--- where neither of two tests says so, both don't
-pub neither : (a b : Bool) → (a || b) ≡ false → (a ≡ false) × (b ≡ false)
-neither true b e = absurd (true≢false e)
-neither false b e = (refl, e)
+-- where none before them is given, what is judged of the clauses is the answer
+pub judged : (n : ℕ) (hard soft : List ℕ) (refusal : ℕ) (answer : Judged) → n ≤ variablesMost → refusal ≡ clausesRefusal n hard soft 0 → Judges n hard soft answer
+    → Checks (setup n hard soft) refusal answer
+judged n hard soft refusal (Taken settings) v e j =
+    let fine = fine-clauses n hard soft 0 (sym (j .first 0)) in (
+      e ∙ sym (j .first 0),
+      record { variables = v; hard = fine .hard-literals; soft = fine .soft-literals; settings = fine .settings-few },
+      j .counts settings refl,
+    )
+judged n hard soft refusal (Unfit r) v e j = e ∙ sym (j .first 0)

@@ -9,13 +9,13 @@ use Rattle.sets.specs.Lists.{Exactly}
 use Rattle.setups.specs.Setups.{Setup, count, Together, WayOut}
 use Rattle.setups.specs.Refusals.{numberOf, finished, unmet}
 use Rattle.setups.specs.Taken.{Taken}
+use Rattle.setups.specs.declared.judging.Judged.{Judged}
+use Rattle.setups.specs.declared.judging.Judged.the-variants.{Taken as Passed, Unfit}
 use Rattle.setups.specs.List.{ListResult, without-list, zeroed, givenOut}
 use Rattle.setups.specs.declared.Refusal.the-variants.{TooMany}
 use Rattle.list.specs.Walking.{over}
 use Rattle.list.specs.declared.Listing.{Listing}
 use Rattle.list.specs.declared.Listing.the-variants.{Listed, Unmet, Refused}
-use Rattle.list.specs.declared.checks.Checked.{Checked}
-use Rattle.list.specs.declared.checks.Checked.the-variants.{Passed, Refused as Stopped}
 
 -- the answer in its number and values, with the two lent places afterwards
 abbrev pub answered : Listing → List ℕ → List ℕ → ListResult
@@ -28,9 +28,9 @@ example-result : (answered (Refused TooMany) [] [] .number ≡ 8) × (answered U
 example-result = (refl, refl, refl)
 
 -- the checks before the search: the first refusal, or the number of settings of a setup that every search takes
-abbrev pub Checks : Setup → ℕ → Checked → Type 0
+abbrev pub Checks : Setup → ℕ → Judged → Type 0
 Checks g refusal (Passed settings) = (refusal ≡ 0) × Taken g × (settings ≡ count g)
-Checks g refusal (Stopped r) = refusal ≡ numberOf r
+Checks g refusal (Unfit r) = refusal ≡ numberOf r
 
 -- The list given out from the places it was found in, of which the job makes zeros afterwards: `ways` are exactly the ways out, rising,
 -- and `met` tells whether the hard clauses have a model.

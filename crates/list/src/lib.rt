@@ -1,14 +1,13 @@
 // List: all ways out of a setup, by a walk over its settings. specs/ has what each function promises, proofs/ the laws of the walk.
 mod checks;
-mod places;
 mod walk;
 
-use checks::Checked;
 use checks::first_refusal;
-use places::clear;
-use places::copy_out;
+use lent::clear;
+use lent::copy_out;
 use sets::EMPTY;
 use sets::Set;
+use setups::Judged;
 use setups::Refusal;
 use walk::Branch;
 use walk::Node;
@@ -56,7 +55,7 @@ fn give_out(
     if list.len() < filled {
         return Listing::Refused(Refusal::TooMany);
     }
-    copy_out(&found[..filled], list);
+    copy_out(found, list, filled);
     Listing::Listed(filled)
 }
 
@@ -66,12 +65,13 @@ pub fn list(count: u32, hard: &[u8], soft: &[u8], list: &mut [Set], scratch: &mu
     ensures { λ r. ⌜ Lists count (now (hard .entry)) (now (soft .entry)) (now (list .entry)) (now (scratch .entry)) (answered r (now (list .exit)) (now (scratch .exit))) ⌝ }
 {
     let room = list.len();
-    match first_refusal(count, hard, soft, room, scratch.len()) {
-        Checked::Refused(refusal) => Listing::Refused(refusal),
-        Checked::Passed(settings) => {
+    let whole = scratch.len();
+    match first_refusal(count, hard, soft, room, whole) {
+        Judged::Unfit(refusal) => Listing::Refused(refusal),
+        Judged::Taken(settings) => {
             let places = room + 1;
             let answer = give_out(count, hard, soft, settings, list, &mut scratch[..places]);
-            clear(scratch);
+            clear(&mut scratch[..whole]);
             answer
         }
     }

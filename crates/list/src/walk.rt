@@ -1,13 +1,13 @@
 // The walk over the settings, from the highest down: keep before give up, so that the ways out come rising, with nothing to sort.
-use crate::places::store;
 use numbers::Setting;
 use question::Reply;
 use question::question;
 use sets::Set;
 use sets::has;
 use sets::with;
+ghost use mathlib.Core.Path.{_≡_};
 ghost use Prim.Native.Nat.{_+_, _-_, _^_, _<_};
-ghost use lib.ListN.{length, take};
+ghost use lib.ListN.{length, take, set};
 ghost use Rattle.setups.specs.Setups.{setup};
 ghost use Rattle.setups.specs.Taken.{Taken};
 ghost use Rattle.list.specs.Walking.{Keeps, GivesUp, Reached, Stands, Enters, Walked};
@@ -82,6 +82,15 @@ fn keeping(count: u32, hard: &[u8], soft: &[u8], node: Node, found: &[Set]) -> B
         return Branch::Live(kept);
     }
     enter(count, hard, soft, kept, found)
+}
+
+// A set put into the next place.
+fn store(places: &mut [Set], filled: usize, added: Set) -> usize
+    requires { ⌜ filled < length (now places) ⌝ }
+    ensures { λ r. ⌜ (r ≡ filled + 1) × (now (places .exit) ≡ set (now (places .entry)) filled added) ⌝ }
+{
+    places[filled] = added;
+    filled + 1
 }
 
 // Puts the ways out of a live node's branch behind those found, until the places are full. A setting is given up only after a dead keep,

@@ -11,7 +11,7 @@ use Rattle.sets.specs.Tests.{has, all}
 use Rattle.sets.proofs.Deciding.{T-true, T-equal}
 use Rattle.sets.proofs.Digits.{share-only}
 use Rattle.sets.proofs.Tests.{has-in, in-has}
-use Rattle.lent.proofs.Fronts.{front}
+use Rattle.numbers.proofs.Places.{front}
 use Rattle.mark.specs.Agreeing.{agrees}
 
 -- the code's `has` answers as the test does

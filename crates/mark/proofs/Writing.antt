@@ -7,7 +7,7 @@ use native.Mathlib.Omega.{arith}
 use lib.ListN.{length, set, drop}
 use Rattle.sets.specs.Marks.{mark, marksFrom, marks}
 use Rattle.sets.proofs.Marks.{marks-length}
-use Rattle.lent.proofs.Fills.{fill-next}
+use Rattle.numbers.proofs.Places.{fill-next}
 
 -- one mark more stands behind the others
 marks-more : (list : List ℕ) (n : ℕ) → marks (n + 1) list ≡ marks n list ++ (mark list n ∷ [])

@@ -15,11 +15,14 @@ pub struct Selector(pub u32);
 // How many variables there are at the most, and so how many places for their values.
 pub const VARIABLES_MOST: usize = 64;
 
+// What a negated literal's byte has beyond its variable's number.
+pub const NEGATED: u8 = 128;
+
 // The variable that a literal byte speaks of: v for the byte v, and for 128 + v.
 pub fn variable_of(literal: u8) -> Variable
     ensures { λ r. ⌜ r .0 ≡ literal % 128 ⌝ }
 {
-    Variable(literal % 128)
+    Variable(literal % NEGATED)
 }
 
 // Where the variable's value stands among 64: variable v at v − 1. It is a place there whatever the number.

@@ -17,10 +17,11 @@ use Rattle.setups.specs.Limits.{settingsMost}
 use Rattle.setups.specs.Clauses.{Assigns}
 use Rattle.setups.specs.Setups.{Setup, count, SettingTrue}
 use Rattle.setups.specs.Taken.{Taken}
+use Rattle.setups.specs.Settling.{opening}
 use Rattle.setups.proofs.Models.{assigns-full}
 use Rattle.question.specs.Asking.{Meets, Breaks, Says}
 use Rattle.question.specs.Tests.{isTrue, holds, Broken, Asked}
-use Rattle.question.specs.Values.{Agrees, Opens, Completes}
+use Rattle.question.specs.Values.{Agrees, Completes}
 use Rattle.question.specs.Steps.{Step, unmoved}
 use Rattle.question.specs.Standings.{Stands}
 use Rattle.question.specs.Searches.{Told}
@@ -28,6 +29,7 @@ use Rattle.question.specs.declared.Reply.the-variants.{Yes, No}
 use Rattle.question.specs.declared.forcing.Forced.{Forced}
 use Rattle.question.specs.declared.searching.Sought.{Sought}
 use Rattle.question.specs.declared.standing.Standing.{Standing}
+use Rattle.question.proofs.ValueLaws.{opens}
 use Rattle.question.proofs.Bridge.{rules-true, holds-true}
 
 module _ (g : Setup) (taken : Taken g) (all : ℕ) (every : all ≡ 2 ^ min (count g) settingsMost - 1) where
@@ -66,18 +68,18 @@ module _ (g : Setup) (taken : Taken g) (all : ℕ) (every : all ≡ 2 ^ min (cou
         };
       }
 
-      agrees : (start : List ℕ) → Opens (g .variables) start → Agrees start m
-      agrees start opens i h =
-          let o = opens i h in
+      agrees : (start : List ℕ) → start ≡ opening (g .variables) → Agrees start m
+      agrees start is i h =
+          let o = opens (g .variables) start is i h in
           List·getD-eq-default m 0 {n = i} (omega (arith, o .0, meets .models .assigns .size)) ∙ sym (o .1)
 
       broken : Breaks g given m → Broken (bitAnd given all) (isTrue m) (g .soft)
       broken breaks i h t = let k = there given i .0 h in breaks i (k .1) (k .0) (truly i .0 t .1)
 
-    module _ (start : List ℕ) (opens : Opens (g .variables) start) (forced : Forced)
+    module _ (start : List ℕ) (is : start ≡ opening (g .variables)) (forced : Forced)
         (step : Step (λ m. Broken (bitAnd given all) (isTrue m) (g .soft)) (unmoved start) forced) where
       reaches : (m : List ℕ) (meets : Meets g kept found m) → Breaks g given m → (forced .fails ≡ false) × Agrees (forced .values) m
-      reaches m meets breaks = step .stays m (assigns-full (meets .models .assigns)) (broken m meets breaks) (agrees m meets start opens)
+      reaches m meets breaks = step .stays m (assigns-full (meets .models .assigns)) (broken m meets breaks) (agrees m meets start is)
 
       -- the given-up settings cannot be broken
       pub no-start : forced .fails ≡ true → Says g kept given found No

@@ -1,57 +1,30 @@
 -- Found sets: the last setting of a set, and what all found sets ask of the settings.
-use mathlib.Core.Path.{_≡_, refl, sym, ap, _∙_, subst}
+use mathlib.Core.Path.{_≡_, refl, subst}
 use mathlib.Core.Logic.{inl, ⊎-elim, by-cases}
 use mathlib.Core.Bool.{Bool, true, false}
 use mathlib.Core.List.{List}
-use Prim.Native.Nat.{ℕ, zero, suc, _+_, _-_, _/_, _%_, _≤_, _<_, zero-le}
-use native.Mathlib.Nat.{not-suc-le-zero, le-of-suc-le-suc}
+use Prim.Native.Nat.{ℕ, _+_, _≤_, _<_, zero-le}
+use native.Mathlib.Nat.{not-suc-le-zero}
 use native.Mathlib.Decide.{decLt}
 use native.Mathlib.Omega.{arith}
 use lib.Bits.{bitAnd, bitOr}
 use lib.Dec.{T}
 use lib.ListN.{length, getD}
-use Rattle.sets.specs.Sets.{digit, In, Within, Share}
+use Rattle.sets.specs.Sets.{In, Within, Share, AtMostOne}
 use Rattle.sets.specs.Lists.{Listed}
 use Rattle.sets.specs.Tests.{has}
-use Rattle.sets.proofs.Digits.{digit-zero, digit-suc, in-le, none-in, and-in, or-joins}
+use Rattle.sets.proofs.Digits.{none-in, and-in, or-joins}
 use Rattle.sets.proofs.Lists.{place-listed, listed-place}
 use Rattle.sets.proofs.Tests.{has-in, in-has}
 use Rattle.question.specs.Founds.{Each, One, Fit, KeepsLast, Narrows}
 
 -- ---- the last setting of a set
 
--- taking 1 away changes no digit above one that is 1
-less-one : (S i j : ℕ) → In i S → i < j → digit (S - 1) j ≡ digit S j
-less-one S i zero h l = absurd (not-suc-le-zero l)
-less-one S zero (suc j) h l =
-    let half : (S - 1) / 2 ≡ S / 2 = omega (arith, digit-zero S) in
-    digit-suc (S - 1) j ∙ ap (λ (x : ℕ). digit x j) half ∙ sym (digit-suc S j)
-less-one S (suc i) (suc j) h l = digit-suc (S - 1) j ∙ step (less-one (S / 2) i j in-half (le-of-suc-le-suc l)) ∙ sym (digit-suc S j)
-  where
-    in-half : In i (S / 2)
-    in-half = sym (digit-suc S i) ∙ h
-
-    same : {a b : ℕ} → a ≡ b → digit a j ≡ digit b j
-    same e = ap (λ (x : ℕ). digit x j) e
-
-    step : digit (S / 2 - 1) j ≡ digit (S / 2) j → digit ((S - 1) / 2) j ≡ digit (S / 2) j
-    step rest =
-        by-cases (decLt 0 (S % 2)) (λ odd. same (let e : (S - 1) / 2 ≡ S / 2 = omega arith in e))
-        (λ even. same (let e : (S - 1) / 2 ≡ S / 2 - 1 = omega (arith, in-le i (S / 2) in-half) in e) ∙ rest)
-
--- a set that has no digit in common with one less has one setting at the most
-lone : (S i j : ℕ) → bitAnd S (S - 1) ≡ 0 → In i S → In j S → i ≡ j
-lone S i j e h k =
-    by-cases (decLt i j) (λ l. absurd (two i j h k l)) (λ n. by-cases (decLt j i) (λ l. absurd (two j i k h l)) (λ q. omega arith))
-  where
-    two : (a b : ℕ) → In a S → In b S → ¬ (a < b)
-    two a b h k l = none-in b (subst (In b) e (and-in S (S - 1) b .1 (k, less-one S a b h l ∙ k)))
-
-pub keeps-last : (kept left : ℕ) → bitAnd left (left - 1) ≡ 0 → KeepsLast kept left (bitOr kept left)
-keeps-last kept left e = record {
+pub keeps-last : (kept left : ℕ) → AtMostOne left → KeepsLast kept left (bitOr kept left)
+keeps-last kept left lone = record {
   grows = λ i h. or-joins kept left i .1 (inl h);
   only = λ test each one i h.
-      ⊎-elim (each i) (λ k. subst (λ (x : ℕ). T (test x)) (lone left (one .0) i e (one .1) k) (one .2)) (or-joins kept left i .0 h);
+      ⊎-elim (each i) (λ k. subst (λ (x : ℕ). T (test x)) (lone (one .0) i (one .1) k) (one .2)) (or-joins kept left i .0 h);
 }
 
 -- ---- all found sets

@@ -8,14 +8,14 @@ use native.Mathlib.Numerals.{add-one}
 use native.Mathlib.Omega.{arith}
 use lib.Dec.{T}
 use lib.ListN.{length, getD, drop}
-use lib.Seq.{drop-cons}
+use Rattle.numbers.proofs.Places.{front}
 use Rattle.sets.specs.Sets.{In, Share, Joins, only}
 use Rattle.sets.proofs.Deciding.{T-true}
 use Rattle.sets.proofs.Digits.{in-below, share-only, only-in}
 use Rattle.setups.specs.Limits.{settingsMost}
 use Rattle.setups.specs.Clauses.{clauses}
 use Rattle.setups.specs.Setups.{settings}
-use Rattle.setups.proofs.CheckLaws.{settings-length, settings-end, settings-literal}
+use Rattle.setups.proofs.CheckLaws.{settings-length, clauses-end, clauses-literal}
 use Rattle.question.specs.Selectors.{next, Adds}
 
 -- a set has no setting from its width on
@@ -49,32 +49,31 @@ adds-one S n k R counts t l e h i = Iff·trans (h i) (⊎-elim inl to, ⊎-elim 
 
 -- ---- the selector along a soft buffer
 
--- at place i: the selector n, and the settings from there on, make up all settings, as far as selectors go
+-- at place i: the selector n, and the clauses from there on, make up all settings, as far as selectors go
 pub record Along (soft : List ℕ) (n i : ℕ) : Type 0 where
   pub upto : i ≤ length soft
-  pub sums : min (n + length (settings (drop i soft))) settingsMost ≡ min (length (settings soft)) settingsMost
+  pub sums : min (n + length (clauses (drop i soft))) settingsMost ≡ min (length (settings soft)) settingsMost
 
 pub along-starts : (soft : List ℕ) (n : ℕ) → n ≡ 0 → Along soft n 0
-along-starts soft n e = record { upto = zero-le; sums = omega arith }
+along-starts soft n e = record { upto = zero-le; sums = omega (arith, settings-length soft) }
 
 module _ (soft : List ℕ) (n i : ℕ) (at : Along soft n i) (l : i < length soft) where
-  -- the settings from the byte at i on
-  here : length (settings (drop i soft)) ≡ length (settings (getD soft i 0 ∷ drop (i + 1) soft))
-  here = rw (add-one, drop-cons soft i 0 l)
+  -- the clauses from the byte at i on
+  here : length (clauses (drop i soft)) ≡ length (clauses (getD soft i 0 ∷ drop (i + 1) soft))
+  here = rw (front soft i l)
 
   pub along-ends : getD soft i 0 ≡ 0 → (n′ : ℕ) → n′ ≡ next n → Along soft n′ (i + 1)
   along-ends z n′ e = record {
     upto = omega arith;
-    sums = omega (arith, at .sums, here, settings-end (getD soft i 0) z (drop (i + 1) soft));
+    sums = omega (arith, at .sums, here, clauses-end (getD soft i 0) z (drop (i + 1) soft));
   }
 
   pub along-reads : getD soft i 0 ≢ 0 → Along soft n (i + 1)
   along-reads z = record {
     upto = omega arith;
-    sums = omega (arith, at .sums, here, settings-literal (getD soft i 0) z (drop (i + 1) soft));
+    sums = omega (arith, at .sums, here, clauses-literal (getD soft i 0) z (drop (i + 1) soft));
   }
 
   -- a literal of a setting that there is: its setting ends further on
   pub along-inside : getD soft i 0 ≢ 0 → n < settingsMost → n < length (settings soft) → 0 < length (clauses (drop (i + 1) soft))
-  along-inside z k q =
-      omega (arith, at .sums, here, settings-literal (getD soft i 0) z (drop (i + 1) soft), settings-length (drop (i + 1) soft))
+  along-inside z k q = omega (arith, at .sums, here, clauses-literal (getD soft i 0) z (drop (i + 1) soft))

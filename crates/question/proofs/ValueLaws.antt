@@ -1,24 +1,21 @@
 -- Values by place: what a value that is set does to the free ones and to who agrees; the first and the last values of a search.
 use mathlib.Core.Path.{_≡_, refl, sym, _∙_, subst}
-use mathlib.Core.Logic.{_≢_, by-cases}
-use mathlib.Core.List.{List, [], _∷_}
-use Prim.Native.Nat.{ℕ, zero, suc, _+_, _%_, _≤_, _<_, zero-le, suc-le-suc}
+use mathlib.Core.Logic.{_≢_, by-cases, ⊎-elim}
+use mathlib.Core.List.{List, [], _∷_, _++_}
+use Prim.Native.Nat.{ℕ, zero, suc, _+_, _-_, _≤_, _<_, zero-le, suc-le-suc}
 use native.Mathlib.Nat.{not-suc-le-zero, zero-lt-suc}
 use native.Mathlib.Decide.{ℕ-discrete}
 use native.Mathlib.Omega.{arith}
 use borrow.Author.Tests.{le-ltb}
 use lib.ListN.{length, getD, set, replicate, length-set}
 use lib.Seq.{getD-set-same, getD-set-other}
-use Rattle.setups.specs.Searching.{freeCount}
-use Rattle.setups.proofs.Scanning.{free-set}
+use Rattle.numbers.proofs.Places.{zeros-at}
+use Rattle.setups.specs.Limits.{variablesMost}
+use Rattle.setups.specs.Settling.{opening}
+use Rattle.setups.specs.Searching.{freeCount, lowestFree}
+use Rattle.setups.proofs.Scanning.{free-set, lowest-cases}
 use Rattle.question.specs.Tests.{slot}
-use Rattle.question.specs.Values.{Decided, Agrees, Opens, Completes}
-
--- zeros are 0 everywhere
-pub zeros-at : (n i : ℕ) → _≡_ {A = ℕ} (getD (replicate n 0) i 0) 0
-zeros-at zero i = refl
-zeros-at (suc n) zero = refl
-zeros-at (suc n) (suc i) = zeros-at n i
+use Rattle.question.specs.Values.{Decided, Agrees, Completes}
 
 -- ---- one value set
 
@@ -50,32 +47,17 @@ all-decided (x ∷ values) h (suc i) = all-decided values (λ j l. h (suc j) (su
 
 -- ---- the values that a search starts from
 
-pub record Opening (values : List ℕ) (i : ℕ) : Type 0 where
-  pub size : length values ≡ 64
-  pub opens : Opens i values
+-- the first n places are free, and what is not free is 0
+abbrev pub Opens : ℕ → List ℕ → Type 0
+Opens n values = (i : ℕ) → getD values i 0 < 2 → (n ≤ i) × (getD values i 0 ≡ 0)
 
-pub opening-starts : (values : List ℕ) → length values ≡ 64 → ((j : ℕ) → getD values j 0 ≡ 0) → Opening values 0
-opening-starts values n z = record { size = n; opens = λ j h. (zero-le, z j) }
+opens-on : (n k : ℕ) → Opens n (replicate n 2 ++ replicate k 0)
+opens-on zero k i h = (zero-le, zeros-at k i)
+opens-on (suc n) k zero h = absurd (let b : ⊥ = omega arith in b)
+opens-on (suc n) k (suc i) h = let o = opens-on n k i h in (suc-le-suc (o .0), o .1)
 
-pub opening-more : (values : List ℕ) (i : ℕ) → Opening values i → i < 64 → Opening (set values i 2) (i + 1)
-opening-more values i at l = record {
-  size = length-set values i 2 ∙ at .size;
-  opens = λ j h. by-cases (ℕ-discrete j i) (here j h) (there j h);
-}
-  where
-    inside : i < length values
-    inside = omega (arith, at .size)
-
-    here : (j : ℕ) → getD (set values i 2) j 0 < 2 → j ≡ i → (i + 1 ≤ j) × (getD (set values i 2) j 0 ≡ 0)
-    here j h e =
-        let free = getD-set-same values i 2 0 inside in
-        absurd (let b : ⊥ = omega (arith, free, subst (λ (k : ℕ). getD (set values i 2) k 0 < 2) e h) in b)
-
-    there : (j : ℕ) → getD (set values i 2) j 0 < 2 → j ≢ i → (i + 1 ≤ j) × (getD (set values i 2) j 0 ≡ 0)
-    there j h n =
-        let same = getD-set-other values i j 2 0 n in
-        let was = at .opens j (omega arith) in
-        (omega (arith, was .0), same ∙ was .1)
+pub opens : (n : ℕ) (values : List ℕ) → values ≡ opening n → Opens n values
+opens n values e = rw e (opens-on n (variablesMost - n))
 
 -- ---- free values become 0
 
@@ -121,29 +103,12 @@ completing-done values model i at l = record {
 
 -- ---- the lowest free variable
 
--- no variable below v is free
-pub record Lowest (values : List ℕ) (v : ℕ) : Type 0 where
-  pub from : 1 ≤ v
-  pub upto : v ≤ 65
-  pub size : length values ≡ 64
-  pub none : (j : ℕ) → suc j < v → getD values j 0 < 2
+module _ (values : List ℕ) (n : length values ≡ 64) (v : ℕ) (e : v ≡ lowestFree values + 1) where
+  -- its negation is a literal to choose
+  pub lowest-chosen : v ≤ 64 → 1 < getD values (slot (128 + v)) 0
+  lowest-chosen l =
+      let s : slot (128 + v) ≡ lowestFree values = omega arith in
+      rw s (⊎-elim (λ h. h .free) (λ h. absurd (let b : ⊥ = omega (arith, h .1) in b)) (lowest-cases values))
 
-pub lowest-starts : (values : List ℕ) → length values ≡ 64 → Lowest values 1
-lowest-starts values n = record { from = omega arith; upto = omega arith; size = n; none = λ j l. absurd (let b : ⊥ = omega arith in b) }
-
-module _ (values : List ℕ) (v : ℕ) (at : Lowest values v) where
-  -- variable v is free: its negation is a literal to choose
-  pub lowest-found : v ≤ 64 → (p : ℕ) → p ≡ (v + 63) % 64 → 2 ≤ getD values p 0 → 1 < getD values (slot (128 + v)) 0
-  lowest-found l p e h = let s : slot (128 + v) ≡ p = omega arith in rw s h
-
-  pub lowest-next : v ≤ 64 → (p : ℕ) → p ≡ (v + 63) % 64 → getD values p 0 < 2 → Lowest values (v + 1)
-  lowest-next l p e h = record { from = omega arith; upto = omega arith; size = at .size; none = each }
-    where
-      s : suc p ≡ v
-      s = omega (arith, at .from)
-
-      each : (j : ℕ) → suc j < v + 1 → getD values j 0 < 2
-      each j k = by-cases (ℕ-discrete j p) (λ q. rw q h) (λ n. at .none j (omega (arith, s)))
-
-  pub lowest-none : 64 < v → Decided values
-  lowest-none l = all-decided values (λ j k. at .none j (omega (arith, at .size)))
+  pub none-free : 64 < v → Decided values
+  none-free l = ⊎-elim (λ h. absurd (let b : ⊥ = omega (arith, h .inside) in b)) (λ h. h .0) (lowest-cases values)

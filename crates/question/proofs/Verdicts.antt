@@ -5,10 +5,9 @@ use mathlib.Core.Bool.{Bool, true, false, _&&_, _||_, or-assoc, or-false, and-tr
 use mathlib.Core.List.{List, [], _∷_}
 use Prim.Native.Nat.{ℕ, zero, suc, _+_, _≤_, _<_}
 use native.Mathlib.Nat.{not-suc-le-zero}
-use native.Mathlib.Numerals.{add-one}
 use lib.Dec.{T}
 use lib.ListN.{length, getD, drop, drop-of-length-le}
-use lib.Seq.{drop-cons}
+use Rattle.numbers.proofs.Places.{front}
 use Rattle.setups.specs.Clauses.{push, clauses}
 use Rattle.setups.specs.Setups.{apiece, settings}
 use Rattle.question.specs.Tests.{passes, allPass, passesAt}
@@ -71,15 +70,15 @@ module _ (test : ℕ → Bool) (sofar : Bool) (bytes : List ℕ) (i : ℕ) where
   pub verdicts-end : i < length bytes → getD bytes i 0 ≡ 0
       → verdicts test sofar (clauses (drop i bytes)) ≡ sofar ∷ verdicts test false (clauses (drop (i + 1) bytes))
   verdicts-end l z =
-      rw (add-one, drop-cons bytes i 0 l, z)
-      (ap (λ (q : Bool). q ∷ verdicts test false (clauses (drop (suc i) bytes))) (or-false sofar))
+      rw (front bytes i l, z)
+      (ap (λ (q : Bool). q ∷ verdicts test false (clauses (drop (i + 1) bytes))) (or-false sofar))
 
   -- any other byte is one more literal of it
   pub verdicts-literal : i < length bytes → getD bytes i 0 ≢ 0
       → verdicts test sofar (clauses (drop i bytes)) ≡ verdicts test (sofar || test (getD bytes i 0)) (clauses (drop (i + 1) bytes))
   verdicts-literal l n =
-      rw (add-one, drop-cons bytes i 0 l, clauses-push (getD bytes i 0) (drop (suc i) bytes) n)
-      (verdicts-push test sofar (getD bytes i 0) (clauses (drop (suc i) bytes)))
+      rw (front bytes i l, clauses-push (getD bytes i 0) (drop (i + 1) bytes) n)
+      (verdicts-push test sofar (getD bytes i 0) (clauses (drop (i + 1) bytes)))
 
 -- ---- the first clause
 

@@ -1,7 +1,7 @@
 -- Values by place, of which some are free, and the assignments that agree with them.
 use mathlib.Core.Path.{_≡_, refl}
 use mathlib.Core.List.{List, [], _∷_}
-use Prim.Native.Nat.{ℕ, zero, suc, _≤_, _<_}
+use Prim.Native.Nat.{ℕ, zero, suc, _<_}
 use native.Mathlib.Omega.{arith}
 use lib.ListN.{length, getD}
 use Rattle.setups.specs.Limits.{variablesMost}
@@ -19,10 +19,6 @@ example-agrees : Agrees (2 ∷ 0 ∷ []) (1 ∷ 0 ∷ [])
 example-agrees zero h = absurd (let b : ⊥ = omega arith in b)
 example-agrees (suc zero) h = refl
 example-agrees (suc (suc i)) h = refl
-
--- the first n places are free, and what is not free is 0
-abbrev pub Opens : ℕ → List ℕ → Type 0
-Opens n values = (i : ℕ) → getD values i 0 < 2 → (n ≤ i) × (getD values i 0 ≡ 0)
 
 -- r agrees with the values and leaves none free
 pub record Completes (values r : List ℕ) : Type 0 where

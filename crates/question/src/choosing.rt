@@ -5,22 +5,19 @@ use crate::selectors::after;
 use crate::selectors::first;
 use crate::selectors::owes;
 use crate::standing::Standing;
-use crate::values::FREE;
-use crate::values::Values;
+use numbers::NEGATED;
 use numbers::VARIABLES_MOST;
-use numbers::Variable;
-use numbers::value_place;
 use sets::EMPTY;
 use sets::SETTINGS_MOST;
 use sets::Set;
 use sets::meets;
 use sets::size;
+use setups::FREE;
+use setups::Values;
+use setups::lowest_free;
 use setups::place;
 use setups::wish;
 ghost use Rattle.question.specs.Searches.{Chosen};
-
-// What a negated literal's byte has beyond its variable.
-const NEGATED: u8 = 128;
 
 // The literal to try as true first; nothing where no variable is free.
 pub enum Choice {
@@ -149,18 +146,14 @@ fn propose(round: Round, hard: &[u8], soft: &[u8], found: &[Set]) -> u8 {
 }
 
 // The lowest free variable, to be tried at 0.
-fn lowest_free(values: Values) -> Choice
+fn lowest(values: Values) -> Choice
     ensures { λ r. ⌜ Chosen values r ⌝ }
 {
-    let mut variable = Variable(1);
-    while variable.0 as usize <= VARIABLES_MOST {
-        let at = value_place(variable);
-        if FREE <= values[at] {
-            return Choice::Literal(NEGATED + variable.0);
-        }
-        variable = Variable(variable.0 + 1);
+    let variable = lowest_free(values);
+    if VARIABLES_MOST < variable.0 as usize {
+        return Choice::Nothing;
     }
-    Choice::Nothing
+    Choice::Literal(NEGATED + variable.0)
 }
 
 // What is proposed, if its variable is free.
@@ -173,5 +166,5 @@ pub fn choose(round: Round, hard: &[u8], soft: &[u8], found: &[Set]) -> Choice
     if FREE <= values[at] {
         return Choice::Literal(literal);
     }
-    lowest_free(values)
+    lowest(values)
 }

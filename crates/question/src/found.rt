@@ -1,12 +1,12 @@
 // Found sets: one setting of each has to be true.
 use sets::EMPTY;
 use sets::Set;
+use sets::at_most_one;
 use sets::meets;
 use sets::within;
 ghost use mathlib.Core.Path.{_≡_};
 ghost use mathlib.Core.Bool.{true};
 ghost use mathlib.Core.Logic.{_↔_};
-ghost use Prim.Native.Nat.{_<_};
 ghost use Rattle.sets.specs.Tests.{has};
 ghost use Rattle.question.specs.Founds.{Fit, KeepsLast, Narrows};
 
@@ -16,12 +16,11 @@ pub struct Narrowed {
     pub kept: Set,
 }
 
-// The only setting that is left of a set is kept. It is the only one where the set without its lowest is empty.
+// The only setting that is left of a set is kept.
 fn keep_last(kept: Set, left: Set) -> Set
-    requires { ⌜ 0 < left ⌝ }
     ensures { λ r. ⌜ KeepsLast kept left r ⌝ }
 {
-    if left & (left - 1) == EMPTY {
+    if at_most_one(left) {
         return kept | left;
     }
     kept

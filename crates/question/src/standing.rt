@@ -2,10 +2,10 @@
 use crate::selectors::added;
 use crate::selectors::after;
 use crate::selectors::first;
-use crate::values::FREE;
-use crate::values::Values;
 use sets::EMPTY;
 use sets::Set;
+use setups::FREE;
+use setups::Values;
 use setups::place;
 use setups::wish;
 ghost use mathlib.Core.Path.{_≡_};

@@ -1,40 +1,15 @@
-// Values of variables, by place: 0, 1, or free.
+// Values of variables, by place: what is set, and what becomes of the free ones.
 use numbers::VARIABLES_MOST;
+use setups::FREE;
+use setups::Values;
 use setups::place;
 use setups::wish;
 ghost use mathlib.Core.Path.{_≡_};
-ghost use Prim.Native.Nat.{ℕ, _-_, _≤_, _<_};
-ghost use lib.ListN.{getD, set};
-ghost use Rattle.setups.specs.Limits.{variablesMost};
+ghost use Prim.Native.Nat.{_-_};
+ghost use lib.ListN.{set};
 ghost use Rattle.setups.specs.Clauses;
 ghost use Rattle.question.specs.Tests.{slot};
-ghost use Rattle.question.specs.Values.{Opens, Completes};
-
-// From this value on a variable is free.
-pub const FREE: u8 = 2;
-
-// One value for each of 64 places.
-pub type Values = [u8; VARIABLES_MOST];
-
-fn zeros() -> Values
-    ensures { λ r. ⌜ ((i : ℕ) → getD r i 0 ≡ 0) ⌝ }
-{
-    [0u8; VARIABLES_MOST]
-}
-
-// The variables of a setup are free; no other place has a variable.
-pub fn opening(count: u32) -> Values
-    requires { ⌜ count ≤ variablesMost ⌝ }
-    ensures { λ r. ⌜ Opens count r ⌝ }
-{
-    let mut values = zeros();
-    let mut i = 0;
-    while i < count as usize {
-        values[i] = FREE;
-        i += 1;
-    }
-    values
-}
+ghost use Rattle.question.specs.Values.{Completes};
 
 // Free values become 0.
 pub fn complete(values: Values) -> Values

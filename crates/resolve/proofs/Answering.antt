@@ -12,7 +12,7 @@ use Rattle.setups.specs.Limits.{setsMost}
 use Rattle.setups.specs.Setups.{setup, count}
 use Rattle.setups.specs.Refusals.{numberOf, finished, unmet}
 use Rattle.setups.specs.Tests.{together}
-use Rattle.setups.specs.List.{ListResult, without-list, givenOut, listRefusal, listed, Lists}
+use Rattle.setups.specs.List.{ListResult, listedSets, without-list, givenOut, listRefusal, listed, Lists}
 use Rattle.setups.specs.Turn.{turnRefusal, Turns}
 use Rattle.setups.proofs.Duality.{ways-out-exist}
 use Rattle.setups.proofs.Refusals.{refused-number, refused-not-unmet}
@@ -27,7 +27,7 @@ use Rattle.frames.specs.declared.reading.Reading.{Reading}
 use Rattle.frames.specs.declared.reading.Reading.the-variants.{Read, Refused as ReadRefused}
 use Rattle.frames.specs.Read.{ReadResult, readingOf}
 use Rattle.resolve.specs.Lines.{answerLines, refusalLines}
-use Rattle.resolve.specs.Resolve.{places, scratchPlaces, reading, setupRead, listedSets, listedLines, AnswersTurn, Answers, Resolves}
+use Rattle.resolve.specs.Resolve.{places, scratchPlaces, reading, setupRead, listedLines, AnswersTurn, Answers, Resolves}
 
 -- ---- List and Turn have a result, whatever they are given
 

@@ -1,20 +1,18 @@
 -- How many places Read, List and Turn have filled, and how many settings List takes.
 use mathlib.Core.Path.{_≡_, refl, sym, ap, _∙_, subst}
-use mathlib.Core.Bool.{_||_, not}
 use mathlib.Core.List.{List}
 use Prim.Native.Nat.{ℕ, _≤_, zero-le}
 use native.Mathlib.Omega.{arith}
-use borrow.Author.Tests.{eqb-true, eqb-false, ltb-false}
-use lib.Dec.{ltb, leb, eqb}
+use borrow.Author.Tests.{eqb-true, eqb-false}
+use lib.Dec.{ltb, eqb}
 use lib.ListN.{length, drop, length-append}
 use Rattle.sets.proofs.Deciding.{cond-case}
-use Rattle.setups.specs.Limits.{variablesMost, hardBytesMost, softBytesMost, setsMost, settingsMost}
+use Rattle.setups.specs.Limits.{settingsMost}
 use Rattle.setups.specs.Setups.{settings}
-use Rattle.setups.specs.Refusals.{finished, check, noClauseByte, offends, ended, long}
-use Rattle.setups.specs.declared.Refusal.the-variants.{Vars, Size, Work, Literal, Tail, Long, Softs}
+use Rattle.setups.specs.Refusals.{finished}
 use Rattle.setups.specs.List.{ListResult, givenOut, listRefusal, Lists}
 use Rattle.setups.specs.Turn.{turnRefusal, Turns}
-use Rattle.setups.proofs.Refusals.{refused-number, check-passed}
+use Rattle.setups.proofs.JudgeLaws.{list-taken}
 use Rattle.list.specs.Answer.{answered as listAnswered}
 use Rattle.list.specs.declared.Listing.{Listing}
 use Rattle.list.specs.declared.Listing.the-variants.{Listed}
@@ -45,29 +43,12 @@ list-fits n hard soft list scratch r p =
     (λ e. cond-case Fits (p .met) (λ m. given-fits (p .ways) list scratch) (λ m. zero-le)) (λ e. zero-le))
 
 -- List has taken a setup that it lists the ways out of
-few : (n : ℕ) (hard soft : List ℕ) (room scratchRoom : ℕ) → listRefusal n hard soft room scratchRoom ≡ 0 → length (settings soft) ≤ settingsMost
-few n hard soft room scratchRoom e =
-    let softs = check (ltb settingsMost (length (settings soft))) Softs 0 in
-    let longs = check (long hard || long soft) Long softs in
-    let tails = check (not (ended hard) || not (ended soft)) Tail longs in
-    let literals = check (offends (noClauseByte n) hard || offends (noClauseByte n) soft) Literal tails in
-    let work = check (leb scratchRoom room) Work literals in
-    let sizes = ltb hardBytesMost (length hard) || (ltb softBytesMost (length soft) || ltb setsMost room) in
-    let a = check-passed (ltb variablesMost n) Vars (check sizes Size work) 0 (refused-number Vars) e in
-    let b = check-passed sizes Size work 0 (refused-number Size) (a .1) in
-    let d = check-passed (leb scratchRoom room) Work literals 0 (refused-number Work) (b .1) in
-    let f = check-passed (offends (noClauseByte n) hard || offends (noClauseByte n) soft) Literal tails 0 (refused-number Literal) (d .1) in
-    let g = check-passed (not (ended hard) || not (ended soft)) Tail longs 0 (refused-number Tail) (f .1) in
-    let h = check-passed (long hard || long soft) Long softs 0 (refused-number Long) (g .1) in
-    let k = check-passed (ltb settingsMost (length (settings soft))) Softs 0 0 (refused-number Softs) (h .1) in
-    ltb-false settingsMost (length (settings soft)) (k .0)
-
 pub list-few : (n : ℕ) (hard soft list scratch : List ℕ) (r : ListResult) → Lists n hard soft list scratch r → r .number ≡ finished
     → length (settings soft) ≤ settingsMost
 list-few n hard soft list scratch r p done =
     let refusal = listRefusal n hard soft (length list) (length scratch) in
     cond-case (λ (x : ListResult). r ≡ x → length (settings soft) ≤ settingsMost) (eqb refusal 0)
-    (λ e q. few n hard soft (length list) (length scratch) (eqb-true refusal 0 e))
+    (λ e q. list-taken n hard soft (length list) (length scratch) (eqb-true refusal 0 e) .1 .settings-few)
     (λ e q. absurd (eqb-false refusal 0 e (sym (ap (λ (x : ListResult). x .number) q) ∙ done)))
     (p .says)
 

@@ -1,8 +1,8 @@
 -- What the promise means: where the outcome is 00 or 80, the 40 lines are exactly the ways out and the 50 lines exactly the clashes of
 -- the setup that the text says.
 use mathlib.Core.Path.{_≡_, refl, sym, subst}
-use mathlib.Core.Logic.{_⊎_, inl, inr, ⊎-elim, _≢_}
-use mathlib.Core.Bool.{Bool, true, false, true≢false, _||_, not}
+use mathlib.Core.Logic.{_⊎_, inl, inr, ⊎-elim}
+use mathlib.Core.Bool.{_||_, not}
 use mathlib.Core.List.{List, [], _∷_}
 use Prim.Native.Nat.{ℕ, _≤_, zero-le}
 use native.Mathlib.Omega.{arith}
@@ -12,46 +12,39 @@ use lib.ListN.{length, drop}
 use lib.Seq.{take-at}
 use Rattle.sets.specs.Tests.{fine}
 use Rattle.sets.proofs.Deciding.{cond-case}
-use Rattle.setups.specs.declared.Refusal.{Refusal}
 use Rattle.setups.specs.declared.Refusal.the-variants.{Size, Work, Softs, Frame, Room, List as NotAList}
 use Rattle.setups.specs.Limits.{hardBytesMost, softBytesMost, setsMost, settingsMost}
 use Rattle.setups.specs.Setups.{Setup, setup, count, Together}
-use Rattle.setups.specs.Refusals.{numberOf, finished, unmet, check}
-use Rattle.setups.specs.List.{ListResult}
+use Rattle.setups.specs.Refusals.{finished, unmet}
+use Rattle.setups.specs.List.{ListResult, listedSets}
 use Rattle.setups.specs.Turn.{turnRefusal, Turns}
 use Rattle.setups.proofs.Duality.{unmet-no-way-out, unmet-empty-clash}
-use Rattle.setups.proofs.Refusals.{refused-number, check-passed}
+use Rattle.setups.proofs.Refusals.{check-most}
 use Rattle.list.proofs.Promise.{list-means}
 use Rattle.turn.proofs.Promise.{turn-clashes}
-use Rattle.frames.specs.Texts.{Text, good, bad, judge, isBad, countOf, hardOf, softOf}
+use Rattle.frames.specs.Texts.{good, judge, isBad, hardOf, softOf}
 use Rattle.frames.specs.Read.{ReadResult, textMost, readRefusal, readResult}
+use Rattle.frames.proofs.Promises.{read-gives, read-accepts}
 use Rattle.resolve.specs.Lines.{answerLines}
-use Rattle.resolve.specs.Resolve.{places, scratchPlaces, reading, setupRead, listedSets, turnedLines, Answers, Resolves}
+use Rattle.resolve.specs.Resolve.{places, scratchPlaces, reading, setupRead, turnedLines, Answers, Resolves}
 use Rattle.resolve.specs.Meaning.{Resolved, Found, Refused}
 
 -- ---- no refusal has the number of Unmet
-
-small : (test : Bool) (r : Refusal) (rest : ℕ) → numberOf r ≤ 12 → rest ≤ 12 → check test r rest ≤ 12
-small test r rest a b = cond-case (λ (x : ℕ). x ≤ 12) test (λ e. a) (λ e. b)
 
 turn-small : (n : ℕ) (given list scratch : List ℕ) (r : ListResult) → Turns n given list scratch r → r .number ≤ 12
 turn-small n given list scratch r p =
     subst Small (sym (p .says))
     (cond-case Small (eqb (turnRefusal n given (length list) (length scratch)) 0)
     (λ e. cond-case Small (ltb (length list) (length (p .turned))) (λ k. omega arith) (λ k. zero-le))
-    (λ e. small (ltb settingsMost n) Softs _ (omega arith)
-    (small (ltb setsMost (length given) || ltb setsMost (length list)) Size _ (omega arith)
-    (small (leb (length scratch) (length list)) Work _ (omega arith)
-    (small (not (fine n given)) NotAList 0 (omega arith) zero-le)))))
+    (λ e. check-most 12 (ltb settingsMost n) Softs _ (omega arith)
+    (check-most 12 (ltb setsMost (length given) || ltb setsMost (length list)) Size _ (omega arith)
+    (check-most 12 (leb (length scratch) (length list)) Work _ (omega arith)
+    (check-most 12 (not (fine n given)) NotAList 0 (omega arith) zero-le)))))
   where
     Small : ListResult → Type 0
     Small r = r .number ≤ 12
 
 -- ---- what Read has read
-
-said-good : (said : Text) → isBad said ≡ false → said ≡ good (countOf said) (hardOf said) (softOf said)
-said-good (good variables h s) e = refl
-said-good (bad n) e = absurd (true≢false e)
 
 -- the setup that the text says, which Read has filled its places with
 pub record Said (text : List ℕ) (r : ReadResult) : Type 0 where
@@ -62,32 +55,25 @@ pub record Said (text : List ℕ) (r : ReadResult) : Type 0 where
   pub same : setupRead r ≡ setup variables hard soft
 
 module _ (text hard soft : List ℕ) where
-  taken : readRefusal text (length hard) (length soft) ≡ 0 → isBad (judge text) ≡ false
-  taken e =
-      let room = check (ltb (length hard) (length (hardOf (judge text))) || ltb (length soft) (length (softOf (judge text)))) Room 0 in
-      let frame = check-passed (ltb textMost (length text)) Size (check (isBad (judge text)) Frame room) 0 (refused-number Size) e in
-      check-passed (isBad (judge text)) Frame room 0 (refused-number Frame) (frame .1) .0
-
   pub read-small : readResult text hard soft .number ≤ 12
   unfolding readResult
   read-small =
       cond-case (λ (r : ReadResult). r .number ≤ 12) (eqb (readRefusal text (length hard) (length soft)) 0) (λ e. zero-le)
-      (λ e. small (ltb textMost (length text)) Size _ (omega arith)
-      (small (isBad (judge text)) Frame _ (omega arith)
-      (small (ltb (length hard) (length (hardOf (judge text))) || ltb (length soft) (length (softOf (judge text)))) Room 0 (omega arith) zero-le)))
+      (λ e. check-most 12 (ltb textMost (length text)) Size _ (omega arith)
+      (check-most 12 (isBad (judge text)) Frame _ (omega arith)
+      (check-most 12 (ltb (length hard) (length (hardOf (judge text))) || ltb (length soft) (length (softOf (judge text)))) Room 0 (omega arith) zero-le)))
 
   pub read-said : readResult text hard soft .number ≡ finished → Said text (readResult text hard soft)
-  unfolding readResult
-  read-said =
-      cond-case (λ (r : ReadResult). r .number ≡ finished → Said text r) (eqb (readRefusal text (length hard) (length soft)) 0)
-      (λ e done. record {
-        variables = countOf (judge text);
-        hard = hardOf (judge text);
-        soft = softOf (judge text);
-        said = said-good (judge text) (taken (eqb-true (readRefusal text (length hard) (length soft)) 0 e));
-        same = rw (take-at (hardOf (judge text)) (drop (length (hardOf (judge text))) hard) (length (hardOf (judge text))) refl, take-at (softOf (judge text)) (drop (length (softOf (judge text))) soft) (length (softOf (judge text))) refl);
-      })
-      (λ e done. absurd (eqb-false (readRefusal text (length hard) (length soft)) 0 e done))
+  read-said done =
+      let accepted = read-accepts text hard soft .0 done in
+      let held = accepted .1 in
+      record {
+        variables = held .count;
+        hard = held .h;
+        soft = held .s;
+        said = held .says;
+        same = rw (read-gives text hard soft (accepted .0) held, take-at (held .h) (drop (length (held .h)) hard) (length (held .h)) refl, take-at (held .s) (drop (length (held .s)) soft) (length (held .s)) refl);
+      }
 
 -- ---- the lines that answer a setup
 

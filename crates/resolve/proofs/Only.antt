@@ -6,21 +6,15 @@ use Prim.Native.Nat.{ℕ}
 use lib.Dec.{eqb}
 use lib.ListN.{length}
 use lib.Seq.{sets}
-use Rattle.sets.proofs.Turning.{turn-unique}
 use Rattle.setups.specs.Limits.{setsMost}
 use Rattle.setups.specs.Setups.{Setup, count}
 use Rattle.setups.specs.Refusals.{finished}
-use Rattle.setups.specs.List.{ListResult, without-list, givenOut}
-use Rattle.setups.specs.Turn.{turnRefusal, Turns}
+use Rattle.setups.specs.List.{ListResult, listedSets}
+use Rattle.setups.specs.Turn.{Turns}
 use Rattle.list.proofs.Promise.{result-only}
+use Rattle.turn.proofs.Promise.{turns-only}
 use Rattle.resolve.specs.Lines.{refusalLines}
-use Rattle.resolve.specs.Resolve.{places, scratchPlaces, reading, setupRead, listedSets, listedLines, Answers, Resolves, PutsOut}
-
-turns-only : (n : ℕ) (given list scratch : List ℕ) (r s : ListResult) → Turns n given list scratch r → Turns n given list scratch s → r ≡ s
-turns-only n given list scratch r s p q =
-    let refusal = turnRefusal n given (length list) (length scratch) in
-    p .says ∙ ap (λ (turned : List ℕ). cond (eqb refusal 0) (givenOut turned list scratch) (without-list refusal list scratch))
-    (turn-unique n given (p .turned) (q .turned) (p .exact) (q .exact)) ∙ sym (q .says)
+use Rattle.resolve.specs.Resolve.{places, scratchPlaces, reading, setupRead, listedLines, Answers, Resolves, PutsOut}
 
 answers-only : (g : Setup) (a b : List ℕ) → Answers g a → Answers g b → a ≡ b
 answers-only g a b p q =

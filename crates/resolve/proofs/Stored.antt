@@ -3,10 +3,11 @@ use mathlib.Core.Path.{_≡_, refl, sym, ap, _∙_}
 use mathlib.Core.List.{List, [], _∷_, _++_}
 use Prim.Native.Nat.{ℕ, suc, _+_, _*_, _/_, _%_, _≤_, _<_}
 use native.Mathlib.Nat.{div-one}
-use native.Mathlib.Numerals.{add-one, add-two}
+use native.Mathlib.Numerals.{add-two}
 use native.Mathlib.Omega.{arith}
 use lib.ListN.{length, set, getD, drop, length-append, drop-of-length-le}
-use lib.Seq.{sets, length-sets, drop-cons}
+use lib.Seq.{sets, length-sets}
+use Rattle.numbers.proofs.Places.{front}
 use Rattle.frames.specs.Digits.{digits, bytesOf}
 use Rattle.frames.specs.Frames.{lineFeed}
 use Rattle.frames.proofs.Stores.{sets-append}
@@ -68,7 +69,7 @@ last-stored outcome ways clashes at t t₁ t₂ t₃ t₄ e f g h =
 
 module _ (list : List ℕ) (i kind : ℕ) (l : i < length list) where
   here : setLines kind (drop i list) ≡ setLine kind (getD list i 0) ++ setLines kind (drop (i + 1) list)
-  here = rw (add-one, drop-cons list i 0 l)
+  here = rw (front list i l)
 
   pub line-takes : length (setLines kind (drop i list)) ≡ 11 + length (setLines kind (drop (i + 1) list))
   line-takes = ap length here ∙ length-append (setLine kind (getD list i 0)) (setLines kind (drop (i + 1) list))

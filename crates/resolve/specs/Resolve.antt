@@ -8,7 +8,7 @@ use lib.ListN.{take, replicate}
 use Rattle.setups.specs.Limits.{hardBytesMost, softBytesMost, setsMost}
 use Rattle.setups.specs.Setups.{Setup, setup, count}
 use Rattle.setups.specs.Refusals.{finished, unmet}
-use Rattle.setups.specs.List.{ListResult, Lists}
+use Rattle.setups.specs.List.{ListResult, listedSets, Lists}
 use Rattle.setups.specs.Turn.{Turns}
 use Rattle.frames.specs.Read.{ReadResult, readResult}
 use Rattle.resolve.specs.Lines.{answerLines, refusalLines, Puts}
@@ -27,10 +27,6 @@ reading text = readResult text (places hardBytesMost) (places softBytesMost)
 -- the setup that Read has filled the places with
 abbrev pub setupRead : ReadResult → Setup
 setupRead r = setup (r .count) (take (r .hardFilled) (r .hard)) (take (r .softFilled) (r .soft))
-
--- the sets that List or Turn has listed
-abbrev pub listedSets : ListResult → List ℕ
-listedSets r = take (r .filled) (r .list)
 
 -- after Turn's answer
 abbrev pub turnedLines : List ℕ → ListResult → List ℕ

@@ -1,4 +1,5 @@
 // The lines that are put out, stored in the output one after the other.
+use frames::LINE_FEED;
 use frames::put_byte;
 use frames::put_set;
 use sets::EMPTY;
@@ -20,15 +21,26 @@ const CLASH: u8 = 0x50;
 
 const LAST: u8 = 0x60;
 
-const LINE_FEED: u8 = b'\n';
-
 // How many values a byte has.
 const BYTE: usize = 0x100;
 
-// How long the line of a set is, and the last line.
+// How long the line of a set is, with its parts after the kind's two digits.
 const SET_LINE: usize = 11;
 
+const SET_AT: usize = 2;
+
+const SET_END: usize = SET_LINE - 1;
+
+// How long the last line is, with its parts.
 const LAST_LINE: usize = 13;
+
+const OUTCOME_AT: usize = 2;
+
+const WAYS_OUT_AT: usize = 4;
+
+const CLASHES_AT: usize = 8;
+
+const LAST_END: usize = LAST_LINE - 1;
 
 // Puts the line of a set.
 fn put_line(output: &mut [u8], at: usize, kind: u8, set: Set)
@@ -36,8 +48,8 @@ fn put_line(output: &mut [u8], at: usize, kind: u8, set: Set)
     ensures { λ _. ⌜ now (output .exit) ≡ sets (now (output .entry)) at (setLine kind set) ⌝ }
 {
     put_byte(output, at, kind);
-    put_set(output, at + 2, set);
-    output[at + 10] = LINE_FEED;
+    put_set(output, at + SET_AT, set);
+    output[at + SET_END] = LINE_FEED;
 }
 
 // Puts a line for each set of a list, and tells the place after them.
@@ -70,10 +82,10 @@ fn put_last(output: &mut [u8], at: usize, outcome: u8, ways: usize, clashes: usi
     ensures { λ _. ⌜ now (output .exit) ≡ sets (now (output .entry)) at (lastLine outcome ways clashes) ⌝ }
 {
     put_byte(output, at, LAST);
-    put_byte(output, at + 2, outcome);
-    put_count(output, at + 4, ways);
-    put_count(output, at + 8, clashes);
-    output[at + 12] = LINE_FEED;
+    put_byte(output, at + OUTCOME_AT, outcome);
+    put_count(output, at + WAYS_OUT_AT, ways);
+    put_count(output, at + CLASHES_AT, clashes);
+    output[at + LAST_END] = LINE_FEED;
 }
 
 // Puts the lines of the ways out, those of the clashes and the last line, and tells how many bytes that is.

@@ -5,10 +5,9 @@ use mathlib.Core.Bool.{Bool, true, false, cond, false≢true}
 use mathlib.Core.List.{List, [], _∷_, _++_}
 use Prim.Native.Nat.{ℕ, zero, suc, _+_, _≤_, _<_}
 use native.Mathlib.Nat.{add-zero, zero-add, add-assoc}
-use native.Mathlib.Numerals.{add-one}
 use native.Mathlib.Omega.{arith}
 use lib.ListN.{length, getD, drop, drop-of-length-le}
-use lib.Seq.{drop-cons}
+use Rattle.numbers.proofs.Places.{front}
 use Rattle.sets.proofs.Deciding.{bool-case, cond-case}
 use Rattle.setups.specs.declared.Seen.{Seen}
 use Rattle.setups.specs.declared.Seen.the-variants.{AllFalse, OneFree, Enough}
@@ -81,21 +80,17 @@ scan-starts values bytes =
     record { inside = omega arith; fewer = omega arith; gives = rw (resumed-start values (clauses bytes), zero-add) }
 
 module _ {values bytes : List ℕ} {seen : Seen} {gone i : ℕ} (at : ScansFrom values bytes seen gone i) where
-  -- the byte at i, and those after it
-  here : i < length bytes → drop i bytes ≡ getD bytes i 0 ∷ drop (i + 1) bytes
-  here l = rw (add-one, drop-cons bytes i 0)
-
   end-here : i < length bytes → getD bytes i 0 ≡ 0
       → scanned values (clauses bytes) ≡ further gone (orRest seen (scanned values (clauses (drop (i + 1) bytes))))
   unfolding judge
-  end-here l z = at .gives ∙ rw (here l, z)
+  end-here l z = at .gives ∙ rw (front bytes i l, z)
 
   -- a literal is added to the clause so far
   pub scan-literal : i < length bytes → getD bytes i 0 ≢ 0 → ScansFrom values bytes (see values seen (getD bytes i 0)) gone (i + 1)
   scan-literal l n = record {
     inside = omega arith;
     fewer = omega (arith, at .fewer);
-    gives = at .gives ∙ rw (here l, resumed-literal values seen (getD bytes i 0) (drop (i + 1) bytes) n);
+    gives = at .gives ∙ rw (front bytes i l, resumed-literal values seen (getD bytes i 0) (drop (i + 1) bytes) n);
   }
 
   -- a clause ends that doesn't decide
@@ -129,7 +124,7 @@ module _ {values assumed : List ℕ} {i : ℕ} (at : UnitsFrom values assumed i)
   unit-here : i < length assumed
       → scanned values (units assumed) ≡ further i (orRest (see values AllFalse (getD assumed i 0)) (scanned values (units (drop (i + 1) assumed))))
   unfolding judge
-  unit-here l = at .gives ∙ rw (add-one, drop-cons assumed i 0, scanned-clause)
+  unit-here l = at .gives ∙ rw (front assumed i l, scanned-clause)
 
   pub unit-passes : i < length assumed → see values AllFalse (getD assumed i 0) ≡ Enough → UnitsFrom values assumed (i + 1)
   unit-passes l e = record { inside = omega arith; gives = unit-here l ∙ rw (e, further-further i 1) }

@@ -1,13 +1,11 @@
 -- The lowest free value, a turn of settling, and a visit, as the code goes through them.
-use mathlib.Core.Path.{_≡_, refl, sym, ap, ap₂, _∙_}
+use mathlib.Core.Path.{_≡_, sym, ap, ap₂, _∙_}
 use mathlib.Core.Logic.{_≢_, ⊎-elim}
 use mathlib.Core.Bool.{Bool, true, false}
-use mathlib.Core.List.{List, [], _∷_}
-use Prim.Native.Nat.{ℕ, suc, _+_, _%_, _≤_, _<_}
-use native.Mathlib.Nat.{le-of-eq}
+use mathlib.Core.List.{List}
+use Prim.Native.Nat.{ℕ, _+_, _%_, _≤_, _<_}
 use native.Mathlib.Omega.{arith}
 use lib.ListN.{length, getD, set}
-use borrow.Author.Tests.{lt-ltb, le-ltb}
 use Rattle.setups.specs.declared.Seen.the-variants.{OneFree}
 use Rattle.setups.specs.Clauses.{wish}
 use Rattle.setups.specs.Settling.{put}
@@ -23,18 +21,6 @@ use Rattle.search.proofs.Literals.{placed, forced-literal}
 use Rattle.search.proofs.Telling.{told-spent, told-none, told-model, told-after, split-either}
 
 -- ---- the lowest free value
-
-pub lowest-here : (x : ℕ) → 2 ≤ x → (tail : List ℕ) → lowestFree (x ∷ tail) ≡ 0
-unfolding lowestFree
-lowest-here x h tail = rw (lt-ltb 1 x h)
-
-pub lowest-later : (x : ℕ) → x < 2 → (tail : List ℕ) → lowestFree (x ∷ tail) ≡ suc (lowestFree tail)
-unfolding lowestFree
-lowest-later x h tail = rw (le-ltb 1 x (let l : x ≤ 1 = omega arith in l))
-
-pub lowest-none : lowestFree [] ≡ 0
-unfolding lowestFree
-lowest-none = refl
 
 -- where it isn't the length, it is free
 pub lowest-free : (values : List ℕ) → lowestFree values ≢ length values → 2 ≤ getD values (lowestFree values) 0
@@ -85,11 +71,11 @@ module _ (budget used : ℕ) (cs : List (List ℕ)) (values : List ℕ) (room : 
   pub visit-fails : end .fails ≡ true → withoutModel outcome.None (used + 1) ≡ told budget used (visit cs values)
   visit-fails e = told-none budget used 1 (omega arith) ∙ ap (told budget used) (sym (visit-none cs values (fails-so true e)))
 
-  pub visit-models : end .fails ≡ false → lowestFree (end .values) ≡ length (end .values)
+  pub visit-models : end .fails ≡ false → length (end .values) ≤ lowestFree (end .values)
       → record { outcome = outcome.Model; used = used + 1; values = end .values } ≡ told budget used (visit cs values)
   visit-models e h =
       told-model budget used 1 (end .values) (omega arith)
-      ∙ ap (told budget used) (sym (visit-model cs values (end .values) (ends-so e) (le-of-eq (sym h))))
+      ∙ ap (told budget used) (sym (visit-model cs values (end .values) (ends-so e) h))
 
   pub visit-splits : end .fails ≡ false → (at : ℕ) → at ≡ lowestFree (end .values) → at < length (end .values)
       → told budget (used + 1) (sides cs (end .values) at) ≡ told budget used (visit cs values)

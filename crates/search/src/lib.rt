@@ -3,15 +3,9 @@
 mod scans;
 mod visits;
 
-use numbers::VARIABLES_MOST;
 use setups::Seen;
+use setups::Values;
 pub use visits::visit;
-
-// A place for each variable there can be: its value is 0 or 1, or FREE while the search hasn't set it.
-pub type Values = [u8; VARIABLES_MOST];
-
-// The value of a free variable.
-pub const FREE: u8 = 2;
 
 // What a scan decides, and how many clauses it has passed before the one that decided.
 pub struct Scanned {

@@ -1,7 +1,7 @@
 // One scan over all clauses: the first that is wholly false or forces a literal decides, and its number is carried.
 use crate::Scanned;
-use crate::Values;
 use setups::Seen;
+use setups::Values;
 use setups::place;
 use setups::see;
 ghost use mathlib.Core.Path.{_≡_};

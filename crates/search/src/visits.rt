@@ -1,34 +1,22 @@
 // Visit and split: a visit settles forced values and hands over to a split, whose sides are visits with a free variable fewer.
 use crate::Answer;
-use crate::FREE;
 use crate::Outcome;
 use crate::Settled;
-use crate::Values;
 use crate::scans::scan_all;
 use numbers::VARIABLES_MOST;
+use numbers::Variable;
+use numbers::value_place;
 use setups::Seen;
+use setups::Values;
+use setups::lowest_free;
 use setups::place;
 use setups::wish;
 ghost use mathlib.Core.Path.{_≡_};
-ghost use Prim.Native.Nat.{_≤_};
+ghost use Prim.Native.Nat.{_-_, _≤_, _<_};
 ghost use lib.ListN.{getD};
 ghost use Rattle.setups.specs.Searching;
 ghost use Rattle.search.specs.Scans.{clausesOf, ReadableAll};
 ghost use Rattle.search.specs.Told.{settledOf, withoutModel, told, sides};
-
-// The place of the lowest free variable; VARIABLES_MOST where none is free.
-fn lowest_free(values: Values) -> usize
-    ensures { λ r. ⌜ r ≡ Searching.lowestFree values ⌝ }
-{
-    let mut i = 0;
-    while i < VARIABLES_MOST {
-        if FREE <= values[i] {
-            return i;
-        }
-        i += 1;
-    }
-    i
-}
 
 // Sets forced values one by one: after each the scan starts again from the first clause.
 fn settle(start: Values, first: &[u8], second: &[u8], assumed: &[u8]) -> Settled
@@ -89,7 +77,7 @@ pub fn visit(
     }
     let end = settled.values;
     let lowest = lowest_free(end);
-    if lowest == VARIABLES_MOST {
+    if VARIABLES_MOST < lowest.0 as usize {
         return Answer {
             outcome: Outcome::Model,
             used: count,
@@ -102,16 +90,18 @@ pub fn visit(
 // The two sides of a free variable: a visit with the value 0 and, if that side fails, one with the value 1.
 fn split(
     values: Values,
-    at: usize,
+    variable: Variable,
     first: &[u8],
     second: &[u8],
     assumed: &[u8],
     used: u32,
     budget: u32,
 ) -> Answer
-    requires { ⌜ ReadableAll (now first) (now second) (now assumed) × (2 ≤ getD values at 0) ⌝ }
-    ensures { λ r. ⌜ r ≡ told budget used (sides (clausesOf (now (first .entry)) (now (second .entry)) (now (assumed .entry))) values at) ⌝ }
+    requires { ⌜ ReadableAll (now first) (now second) (now assumed) ⌝ }
+    requires { ⌜ (0 < variable .0) × (2 ≤ getD values (variable .0 - 1) 0) ⌝ }
+    ensures { λ r. ⌜ r ≡ told budget used (sides (clausesOf (now (first .entry)) (now (second .entry)) (now (assumed .entry))) values (variable .0 - 1)) ⌝ }
 {
+    let at = value_place(variable);
     let mut low = values;
     low[at] = 0;
     let answer = visit(low, first, second, assumed, used, budget);

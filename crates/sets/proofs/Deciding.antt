@@ -48,6 +48,11 @@ pub or-cases : (a b : Bool) → T (a || b) → T a ⊎ T b
 or-cases true b t = inl tt
 or-cases false b t = inr t
 
+-- where neither passes both fail
+pub neither : (a b : Bool) → (a || b) ≡ false → (a ≡ false) × (b ≡ false)
+neither true b e = absurd (true≢false e)
+neither false b e = (refl, e)
+
 -- "not a, or b" passes and a does: b does
 pub implies-use : (a b : Bool) → T (not a || b) → T a → T b
 implies-use true b t s = t

@@ -47,7 +47,7 @@ pub none-in : (i : ℕ) → ¬ In i 0
 none-in i h = omega (arith, digit-none i)
 
 -- a setting beyond the first, one place lower, is in the half
-half-in : (i S : ℕ) → In (suc i) S → In i (S / 2)
+pub half-in : (i S : ℕ) → In (suc i) S → In i (S / 2)
 half-in i S h = sym (digit-suc S i) ∙ h
 
 -- ---- sets within sets

@@ -4,6 +4,8 @@
 pub mod Deciding
 -- the algebra of sets, digit by digit, with no width
 pub mod Digits
+-- sets of one setting at the most
+pub mod Single
 -- the tests that compute mean their propositions
 pub mod Tests
 -- lists of sets: uniqueness, existence, growth at the end

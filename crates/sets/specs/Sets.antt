@@ -46,6 +46,10 @@ only width number = cond (ltb 0 number && leb number width) (2 ^ (number - 1)) 0
 example-only : (only 32 3 ≡ 4) × (only 32 0 ≡ 0) × (only 32 33 ≡ 0)
 example-only = (refl, refl, refl)
 
+-- S has no two settings
+abbrev pub AtMostOne : ℕ → Type 0
+AtMostOne S = (i j : ℕ) → In i S → In j S → i ≡ j
+
 -- P holds of S and of no other set within S: "smallest" never means fewest members
 abbrev pub Smallest : (ℕ → Type 0) → ℕ → Type 0
 Smallest P S = P S × ((R : ℕ) → Within R S → R ≢ S → ¬ P R)

@@ -7,7 +7,7 @@ ghost use mathlib.Core.Bool.{true};
 ghost use mathlib.Core.Logic.{_↔_};
 ghost use Prim.Native.Nat.{_-_, _^_, min};
 ghost use lib.Count.{ones};
-ghost use Rattle.sets.specs.Sets.{Share, Within, Joins, Leaves, only};
+ghost use Rattle.sets.specs.Sets.{Share, Within, Joins, Leaves, only, AtMostOne};
 
 // A set of settings.
 pub type Set = u32;
@@ -38,6 +38,16 @@ pub fn size(set: Set) -> u32
     ensures { λ r. ⌜ r ≡ ones set ⌝ }
 {
     u32::count_ones(set)
+}
+
+// The set has no two settings. A number and the one before it have nothing in common where the number has one digit 1 only.
+pub fn at_most_one(set: Set) -> bool
+    ensures { λ r. ⌜ (r ≡ true) ↔ AtMostOne set ⌝ }
+{
+    if set == EMPTY {
+        return true;
+    }
+    set & (set - 1) == EMPTY
 }
 
 // The two sets share a setting.

@@ -11,7 +11,7 @@ use native.Mathlib.Omega.{arith}
 use borrow.Author.Tests.{ltb-true, ltb-false, not-false, lt-ltb, le-ltb, eq-eqb, ne-eqb, le-leb, lt-leb}
 use lib.Dec.{T, eqb, leb, ltb, leb·suc-suc, ltb→lt, lt→ltb}
 use lib.ListN.{length, getD, drop, drop-of-length-le}
-use lib.Seq.{drop-cons}
+use Rattle.numbers.proofs.Places.{front}
 use Rattle.sets.proofs.Deciding.{T-true, T-equal, bool-case, cond-case}
 use Rattle.setups.specs.Limits.{literalsMost}
 use Rattle.setups.specs.Clauses.{push, clauses}
@@ -33,7 +33,7 @@ walk-starts rest bytes = record { inside = zero-le; gives = omega arith }
 module _ {rest : List ℕ → ℕ} {bytes : List ℕ} {whole so-far i : ℕ} (at : Walked rest bytes whole so-far i) where
   -- the byte at i, and those after it
   here : i < length bytes → rest (drop i bytes) ≡ rest (getD bytes i 0 ∷ drop (i + 1) bytes)
-  here l = rw (add-one, drop-cons bytes i 0)
+  here l = ap rest (front bytes i l)
 
   -- the walk goes on past a byte that counts one
   pub walk-counts : (next : List ℕ → ℕ) → i < length bytes → ((tail : List ℕ) → rest (getD bytes i 0 ∷ tail) ≡ suc (next tail))
@@ -258,29 +258,28 @@ long-iff bytes e = rw (← long-test bytes e) (below-iff (longPlace 0 bytes) (le
 pub long-none : (bytes : List ℕ) → ended bytes ≡ true → (long bytes ≡ false) ↔ (longPlace 0 bytes ≡ length bytes)
 long-none bytes e = rw (← long-test bytes e) (whole-iff (longPlace 0 bytes) (length bytes) (long-le 0 bytes))
 
--- ---- Softs: how many settings
-
-apiece-length : (cs : List (List ℕ)) → length (apiece cs) ≡ length cs
-apiece-length [] = refl
-apiece-length (clause ∷ rest) = ap suc (apiece-length rest)
+-- ---- how many clauses, and how many settings
 
 pub push-length : (b : ℕ) (cs : List (List ℕ)) → length (push b cs) ≡ length cs
 push-length b [] = refl
 push-length b (clause ∷ rest) = refl
 
+-- a 0 ends one
+pub clauses-end : (b : ℕ) → b ≡ 0 → (tail : List ℕ) → length (clauses (b ∷ tail)) ≡ suc (length (clauses tail))
+clauses-end b e tail = rw e
+
+-- a literal ends none
+pub clauses-literal : (b : ℕ) → b ≢ 0 → (tail : List ℕ) → length (clauses (b ∷ tail)) ≡ length (clauses tail)
+clauses-literal zero h tail = absurd (h refl)
+clauses-literal (suc b) h tail = push-length (suc b) (clauses tail)
+
+apiece-length : (cs : List (List ℕ)) → length (apiece cs) ≡ length cs
+apiece-length [] = refl
+apiece-length (clause ∷ rest) = ap suc (apiece-length rest)
+
 -- each soft clause is a setting of its own
 pub settings-length : (soft : List ℕ) → length (settings soft) ≡ length (clauses soft)
 settings-length soft = apiece-length (clauses soft)
-
--- a 0 ends one
-pub settings-end : (b : ℕ) → b ≡ 0 → (tail : List ℕ) → length (settings (b ∷ tail)) ≡ suc (length (settings tail))
-settings-end b e tail = rw e
-
--- a literal ends none
-pub settings-literal : (b : ℕ) → b ≢ 0 → (tail : List ℕ) → length (settings (b ∷ tail)) ≡ length (settings tail)
-settings-literal zero h tail = absurd (h refl)
-settings-literal (suc b) h tail =
-    settings-length (suc b ∷ tail) ∙ push-length (suc b) (clauses tail) ∙ sym (settings-length tail)
 
 -- ---- Softs: the walk
 
@@ -306,7 +305,7 @@ setting-iff left [] = ((λ l. absurd (not-suc-le-zero l)), λ l. absurd (not-suc
 setting-iff left (suc b ∷ soft) =
     let rest = setting-iff left soft in
     let place = setting-literal left left (suc b) (suc-ne-zero b) refl soft in
-    let count = settings-literal (suc b) (suc-ne-zero b) soft in
+    let count = settings-length (suc b ∷ soft) ∙ push-length (suc b) (clauses soft) ∙ sym (settings-length soft) in
     ((λ l. omega (arith, rest .0 (omega arith))), λ l. omega (arith, rest .1 (omega arith)))
 setting-iff zero (zero ∷ soft) = ((λ l. zero-lt-suc _), λ l. zero-lt-suc _)
 setting-iff (suc left) (zero ∷ soft) =

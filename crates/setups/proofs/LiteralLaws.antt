@@ -1,24 +1,20 @@
 -- Literals: what the tests of a byte say, and where the code finds the value of a literal's variable.
-use mathlib.Core.Path.{_≡_, refl, sym, _∙_}
+use mathlib.Core.Path.{_≡_, sym, _∙_}
 use mathlib.Core.Logic.{_≢_}
-use mathlib.Core.Bool.{Bool, true, false, true≢false, _||_}
+use mathlib.Core.Bool.{false}
 use mathlib.Core.List.{List}
 use Prim.Native.Nat.{ℕ, _+_, _%_, _≤_, _<_}
 use native.Mathlib.Omega.{arith}
 use borrow.Author.Tests.{eqb-false, ltb-false, eq-eqb, ne-eqb}
 use lib.Dec.{eqb, ltb}
 use lib.ListN.{length, getD}
+use Rattle.sets.proofs.Deciding.{neither}
 use Rattle.setups.specs.Limits.{variablesMost}
 use Rattle.setups.specs.Clauses.{LiteralOf, place}
 use Rattle.setups.specs.Refusals.{noLiteral, noClauseByte, offends}
 use Rattle.setups.proofs.CheckLaws.{offends-at}
 
 -- ---- what the tests of a byte say
-
--- where one of two tests would pass, neither does
-pub neither : (a b : Bool) → (a || b) ≡ false → (a ≡ false) × (b ≡ false)
-neither true b e = absurd (true≢false e)
-neither false b e = (refl, e)
 
 -- a byte that the test passes is a literal of n variables
 pub literal : (n b : ℕ) → noLiteral n b ≡ false → LiteralOf n b

@@ -65,11 +65,12 @@ refused-not-none refusal e = omega (arith, number-range refusal)
 
 -- ---- checks in a row
 
--- what a check gives that is no refusal's number comes from what follows it: its test has failed
-pub check-passed : (test : Bool) (refusal : Refusal) (rest number : ℕ) → numberOf refusal ≢ number → check test refusal rest ≡ number → (test ≡ false) × (rest ≡ number)
-check-passed true refusal rest number ne e = absurd (ne e)
-check-passed false refusal rest number ne e = (refl, e)
+-- where none is given the test has failed
+pub check-none : (test : Bool) (refusal : Refusal) (rest : ℕ) → check test refusal rest ≡ 0 → (test ≡ false) × (rest ≡ 0)
+check-none true refusal rest e = absurd (refused-number refusal e)
+check-none false refusal rest e = (refl, e)
 
--- a row of checks gives no number that is neither a refusal's nor the last one
-pub check-other : (test : Bool) (refusal : Refusal) (rest number : ℕ) → numberOf refusal ≢ number → rest ≢ number → check test refusal rest ≢ number
-check-other test refusal rest number ne last e = last (check-passed test refusal rest number ne e .1)
+-- what is given is not above the highest number among them
+pub check-most : (most : ℕ) (test : Bool) (refusal : Refusal) (rest : ℕ) → numberOf refusal ≤ most → rest ≤ most → check test refusal rest ≤ most
+check-most most true refusal rest a b = a
+check-most most false refusal rest a b = b

@@ -1,16 +1,16 @@
 -- What List gives back, for all arguments (document 01, "Ways out and clashes" and "What comes back when it can't").
 use mathlib.Core.Path.{_≡_, refl}
 use mathlib.Core.Logic.{_↔_}
-use mathlib.Core.Bool.{Bool, cond, _||_, not}
+use mathlib.Core.Bool.{Bool, cond, _||_}
 use mathlib.Core.List.{List, [], _∷_, _++_}
 use Prim.Native.Nat.{ℕ}
 use lib.Dec.{T, ltb, leb, eqb}
-use lib.ListN.{length, drop, replicate}
+use lib.ListN.{length, take, drop, replicate}
 use Rattle.sets.specs.Lists.{Exactly}
-use Rattle.setups.specs.declared.Refusal.the-variants.{Vars, Size, Work, Literal, Tail, Long, Softs, TooMany}
-use Rattle.setups.specs.Limits.{variablesMost, hardBytesMost, softBytesMost, setsMost, settingsMost}
-use Rattle.setups.specs.Setups.{setup, settings, Together, WayOut}
-use Rattle.setups.specs.Refusals.{numberOf, finished, unmet, check, noClauseByte, offends, ended, long}
+use Rattle.setups.specs.declared.Refusal.the-variants.{Vars, Size, Work, TooMany}
+use Rattle.setups.specs.Limits.{variablesMost, hardBytesMost, softBytesMost, setsMost}
+use Rattle.setups.specs.Setups.{setup, Together, WayOut}
+use Rattle.setups.specs.Refusals.{numberOf, finished, unmet, check, clausesRefusal}
 
 -- of List and of Turn: the answer's number, how many places Listed has filled (else 0), the list buffer and the scratch afterwards
 pub record ListResult : Type 0 where
@@ -18,6 +18,10 @@ pub record ListResult : Type 0 where
   pub filled : ℕ
   pub list : List ℕ
   pub scratch : List ℕ
+
+-- the sets that it has listed
+abbrev pub listedSets : ListResult → List ℕ
+listedSets r = take (r .filled) (r .list)
 
 -- an answer without a list leaves the list buffer; Unmet and TooMany have set the scratch to zero, all other refusals write nothing
 abbrev pub without-list : ℕ → List ℕ → List ℕ → ListResult
@@ -43,11 +47,7 @@ abbrev pub listRefusal : ℕ → List ℕ → List ℕ → ℕ → ℕ → ℕ
 listRefusal n hard soft room scratchRoom =
     check (ltb variablesMost n) Vars
     (check (ltb hardBytesMost (length hard) || (ltb softBytesMost (length soft) || ltb setsMost room)) Size
-    (check (leb scratchRoom room) Work
-    (check (offends (noClauseByte n) hard || offends (noClauseByte n) soft) Literal
-    (check (not (ended hard) || not (ended soft)) Tail
-    (check (long hard || long soft) Long
-    (check (ltb settingsMost (length (settings soft))) Softs 0))))))
+    (check (leb scratchRoom room) Work (clausesRefusal n hard soft 0)))
 
 abbrev pub listed : ℕ → Bool → List ℕ → List ℕ → List ℕ → ListResult
 listed refusal met ways list scratch =

@@ -7,8 +7,9 @@ use lib.Dec.{eqb, ltb}
 use lib.ListN.{length}
 use Rattle.setups.specs.declared.Refusal.{Refusal}
 use Rattle.setups.specs.declared.Refusal.the-variants.{Vars, Size, Work, Literal, Tail, Long, Softs, TooMany, List as NotAList, Spent, Frame, Room}
-use Rattle.setups.specs.Limits.{literalsMost}
+use Rattle.setups.specs.Limits.{literalsMost, settingsMost}
 use Rattle.setups.specs.Clauses.{clauses}
+use Rattle.setups.specs.Setups.{settings}
 
 abbrev pub numberOf : Refusal → ℕ
 numberOf Vars = 1
@@ -71,3 +72,11 @@ someLong (clause ∷ rest) = ltb literalsMost (length clause) || someLong rest
 
 abbrev pub long : List ℕ → Bool
 long bytes = someLong (clauses bytes)
+
+-- 4, 5, 6, 7 of a setup's two buffers, each over both before the next, and then what comes after. Softs: more settings than there may be
+abbrev pub clausesRefusal : ℕ → List ℕ → List ℕ → ℕ → ℕ
+clausesRefusal n hard soft rest =
+    check (offends (noClauseByte n) hard || offends (noClauseByte n) soft) Literal
+    (check (not (ended hard) || not (ended soft)) Tail
+    (check (long hard || long soft) Long
+    (check (ltb settingsMost (length (settings soft))) Softs rest)))

@@ -4,12 +4,13 @@ use numbers::variable_of;
 ghost use mathlib.Core.Path.{_≡_};
 ghost use lib.ListN.{length};
 ghost use Rattle.setups.specs.Limits.{settingsMost};
+ghost use Rattle.setups.specs.Clauses.{clauses};
 ghost use Rattle.setups.specs.Setups.{settings};
 ghost use Rattle.setups.specs.Refusals.{noLiteral, noClauseByte, firstPlace};
 ghost use Rattle.setups.specs.Checks.{tailPlace, longPlace, settingPlace};
 
 // The most settings, as a count of places.
-const SETTINGS_MOST: usize = sets::SETTINGS_MOST as usize;
+pub const SETTINGS_MOST: usize = sets::SETTINGS_MOST as usize;
 
 // The byte is no literal of `count` variables.
 fn no_literal(count: u32, byte: u8) -> bool
@@ -85,19 +86,26 @@ pub fn long_place(bytes: &[u8]) -> usize
     i
 }
 
-// How many settings a soft buffer has: each 0 ends one.
-pub fn settings_count(soft: &[u8]) -> usize
-    ensures { λ r. ⌜ r ≡ length (settings (now (soft .entry))) ⌝ }
+// How many clauses a buffer has: each 0 ends one.
+pub fn clause_count(bytes: &[u8]) -> usize
+    ensures { λ r. ⌜ r ≡ length (clauses (now (bytes .entry))) ⌝ }
 {
     let mut count = 0;
     let mut i = 0;
-    while i < soft.len() {
-        if soft[i] == 0 {
+    while i < bytes.len() {
+        if bytes[i] == 0 {
             count += 1;
         }
         i += 1;
     }
     count
+}
+
+// How many settings a soft buffer has: each clause is one.
+pub fn settings_count(soft: &[u8]) -> usize
+    ensures { λ r. ⌜ r ≡ length (settings (now (soft .entry))) ⌝ }
+{
+    clause_count(soft)
 }
 
 // Softs: one setting more than SETTINGS_MOST ends.

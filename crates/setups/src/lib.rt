@@ -1,17 +1,26 @@
-// What the jobs share over setups: the limits, the refusals with their numbers, a clause so far, and the byte checks. specs/ has the
-// definitions that every contract cites, proofs/ their laws.
+// What the jobs share over setups: the limits, the refusals with their numbers, a clause so far, the byte checks, and what is judged by
+// them. specs/ has the definitions that every contract cites, proofs/ their laws.
 mod checks;
+mod judging;
 mod literals;
+mod values;
 
+pub use checks::clause_count;
 pub use checks::first_bad_assumed;
 pub use checks::first_bad_literal;
 pub use checks::long_place;
 pub use checks::settings_count;
 pub use checks::softs_place;
 pub use checks::tail_place;
+pub use judging::Judged;
+pub use judging::judge_clauses;
 pub use literals::place;
 pub use literals::see;
 pub use literals::wish;
+pub use values::FREE;
+pub use values::Values;
+pub use values::lowest_free;
+pub use values::opening;
 ghost use mathlib.Core.Path.{_≡_};
 ghost use Rattle.setups.specs.Refusals.{numberOf};
 

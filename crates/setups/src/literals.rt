@@ -1,5 +1,7 @@
 // Literals over values: where a literal's value stands, which value makes it true, and what it adds to a clause so far.
+use crate::FREE;
 use crate::Seen;
+use numbers::NEGATED;
 use numbers::value_place;
 use numbers::variable_of;
 ghost use mathlib.Core.Path.{_≡_};
@@ -18,14 +20,14 @@ pub fn place(literal: u8) -> usize
 pub fn wish(literal: u8) -> u8
     ensures { λ r. ⌜ r ≡ Clauses.wish literal ⌝ }
 {
-    if literal < 128 { 1 } else { 0 }
+    if literal < NEGATED { 1 } else { 0 }
 }
 
 // The clause so far with one literal more, whose variable has this value.
 pub fn see(seen: Seen, literal: u8, value: u8) -> Seen
     ensures { λ r. ⌜ r ≡ seeValue seen literal value ⌝ }
 {
-    if 2 <= value {
+    if FREE <= value {
         match seen {
             Seen::AllFalse => Seen::OneFree(literal),
             Seen::OneFree(other) => if other == literal {

@@ -1,19 +1,18 @@
 -- From the whole branch to the turn: where the search begins, and what it gives out at its end.
-use mathlib.Core.Path.{_≡_, refl}
-use mathlib.Core.Logic.{inl, inr, ⊎-elim, _↔_, by-cases}
-use mathlib.Core.List.{List, [], _∷_, _++_}
-use Prim.Native.Nat.{ℕ, _-_, _^_, _≤_, _<_, zero-le, suc-le-suc}
-use native.Mathlib.Nat.{le-trans, le-suc}
-use native.Mathlib.Decide.{ℕ-discrete}
+use mathlib.Core.Path.{_≡_}
+use mathlib.Core.Logic.{inr, ⊎-elim, _↔_}
+use mathlib.Core.List.{List, _++_}
+use Prim.Native.Nat.{ℕ, _-_, _^_, _≤_, _<_}
 use native.Mathlib.Omega.{arith}
 use lib.ListN.{length, take, drop, replicate}
 use lib.Seq.{length-take-le}
 use lib.Pow.{pow-pos}
 use borrow.Author.Tests.{lt-ltb, le-ltb, ne-eqb}
 use Rattle.sets.specs.Sets.{Within}
-use Rattle.sets.specs.Lists.{Listed, Rising}
+use Rattle.sets.specs.Lists.{Listed}
 use Rattle.sets.specs.Turns.{SmallestCross, Turned}
 use Rattle.sets.proofs.Digits.{within-le, none-in, none-within, in-below, full-in}
+use Rattle.sets.proofs.Lists.{rising-shorter}
 use Rattle.sets.proofs.Turning.{turn-exists}
 use Rattle.setups.specs.Refusals.{numberOf}
 use Rattle.setups.specs.List.{ListResult}
@@ -47,27 +46,6 @@ whole-branch n members S = (to, from)
 
 -- ---- the end
 
--- a rising list whose sets all stand in another rising list is not longer
-no-longer : (a b : List ℕ) → Rising a → Rising b → ((S : ℕ) → Listed S a → Listed S b) → length a ≤ length b
-no-longer [] b r s h = zero-le
-no-longer (x ∷ a) [] r s h = absurd (h x (inl refl))
-no-longer (x ∷ a) (y ∷ b) r s h =
-    by-cases (ℕ-discrete x y) (λ e. suc-le-suc (no-longer a b (r .1) (s .1) (after e))) (λ ne. le-trans (no-longer (x ∷ a) b r (s .1) (beyond ne)) (le-suc (length b)))
-  where
-    -- the rest of the one stands in the rest of the other
-    after : x ≡ y → (S : ℕ) → Listed S a → Listed S b
-    after e S k = ⊎-elim (λ f. absurd (let z : ⊥ = omega (arith, r .0 S k) in z)) (λ l. l) (h S (inr k))
-
-    -- the whole of the one stands there: its first set is above y
-    low : ¬ (x ≡ y) → y < x
-    low ne = ⊎-elim (λ e. absurd (ne e)) (s .0 x) (h x (inl refl))
-
-    beyond : ¬ (x ≡ y) → (S : ℕ) → Listed S (x ∷ a) → Listed S b
-    beyond ne S k = ⊎-elim (λ f. absurd (let z : ⊥ = omega (arith, low ne, least) in z)) (λ l. l) (h S k)
-      where
-        least : x ≤ S
-        least = ⊎-elim (λ e. omega arith) (λ l. omega (arith, r .0 S l)) k
-
 module _ (n : ℕ) {given : List ℕ} (list : List ℕ) {scratch after : List ℕ} {found : ℕ} (grown : Grown (Branch given 0 (2 ^ n - 1)) 0 (length list) scratch found after)
     (same : length after ≡ length scratch) (work : length list < length scratch) where
   fits : found ≤ length after
@@ -94,7 +72,7 @@ module _ (n : ℕ) {given : List ℕ} (list : List ℕ) {scratch after : List �
       → GivesOut n given list scratch (answered (Refused TooMany) list scratchAfter)
   gives-too-many l z =
       let t = turn-exists n given in
-      let longer : found ≤ length (t .0) = rw (length-take-le found after fits) at (no-longer (take found after) (t .0) (grown .rising) (t .1 .rising) (λ S h. t .1 .exact S .1 (found-cross S h))) in
+      let longer : found ≤ length (t .0) = rw (length-take-le found after fits) at (rising-shorter (take found after) (t .0) (grown .rising) (t .1 .rising) (λ S h. t .1 .exact S .1 (found-cross S h))) in
       record { turned = t .0; exact = t .1; says = rw (z, same, lt-ltb (length list) (length (t .0)) (omega arith)) }
 
 -- ---- the checks before it

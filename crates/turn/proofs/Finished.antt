@@ -14,19 +14,19 @@ use Rattle.sets.specs.Tests.{fine}
 use Rattle.sets.specs.Turns.{Fine, Turned}
 use Rattle.sets.proofs.Deciding.{T-true, T-false, cond-case}
 use Rattle.sets.proofs.Tests.{fine-iff}
-use Rattle.setups.specs.Limits.{variablesMost, hardBytesMost, softBytesMost, setsMost, settingsMost}
-use Rattle.setups.specs.Setups.{setup, settings, Together, WayOut}
-use Rattle.setups.specs.Refusals.{check, finished, unmet, noClauseByte, offends, ended, long}
-use Rattle.setups.specs.declared.Refusal.the-variants.{Vars, Size, Work, Literal, Tail, Long, Softs, List as NotAList}
-use Rattle.setups.specs.List.{ListResult, without-list, zeroed, givenOut, listRefusal, Lists}
+use Rattle.setups.specs.Limits.{setsMost, settingsMost}
+use Rattle.setups.specs.Setups.{setup, Together, WayOut}
+use Rattle.setups.specs.Refusals.{check, finished, unmet}
+use Rattle.setups.specs.declared.Refusal.the-variants.{Size, Work, Softs, List as NotAList}
+use Rattle.setups.specs.List.{ListResult, listedSets, without-list, zeroed, givenOut, listRefusal, Lists}
 use Rattle.setups.specs.Turn.{turnRefusal, Turns}
-use Rattle.turn.specs.Turning.{sets}
-use Rattle.setups.proofs.Refusals.{refused-number, refused-not-unmet, check-passed, check-other}
+use Rattle.setups.proofs.Refusals.{check-none}
+use Rattle.setups.proofs.JudgeLaws.{list-most}
 
 -- sets that were given out, and fit, stand in the list buffer
-given-out : (all list scratch : List ℕ) → givenOut all list scratch .number ≡ finished → sets (givenOut all list scratch) ≡ all
+given-out : (all list scratch : List ℕ) → givenOut all list scratch .number ≡ finished → listedSets (givenOut all list scratch) ≡ all
 given-out all list scratch =
-    cond-case (λ (r : ListResult). r .number ≡ finished → sets r ≡ all) (ltb (length list) (length all)) (λ t e. absurd (let z : ⊥ = omega arith in z))
+    cond-case (λ (r : ListResult). r .number ≡ finished → listedSets r ≡ all) (ltb (length list) (length all)) (λ t e. absurd (let z : ⊥ = omega arith in z))
     (λ t e. take-at all (drop (length all) list) (length all) refl)
 
 -- a result that gives out sets is not Unmet
@@ -42,21 +42,21 @@ checked-fine n given room scratchRoom e =
     let fineness = check (not (fine n given)) NotAList 0 in
     let work = check (leb scratchRoom room) Work fineness in
     let size = check (ltb setsMost (length given) || ltb setsMost room) Size work in
-    let s = check-passed (ltb settingsMost n) Softs size 0 (refused-number Softs) e in
-    let z = check-passed (ltb setsMost (length given) || ltb setsMost room) Size work 0 (refused-number Size) (s .1) in
-    let w = check-passed (leb scratchRoom room) Work fineness 0 (refused-number Work) (z .1) in
-    let f = check-passed (not (fine n given)) NotAList 0 0 (refused-number NotAList) (w .1) in
+    let s = check-none (ltb settingsMost n) Softs size e in
+    let z = check-none (ltb setsMost (length given) || ltb setsMost room) Size work (s .1) in
+    let w = check-none (leb scratchRoom room) Work fineness (z .1) in
+    let f = check-none (not (fine n given)) NotAList 0 (w .1) in
     fine-iff n given .0 (T-true (fine n given) .1 (not-false (fine n given) (f .0)))
 
 -- a finished turn was given a fine list, and has listed its turn
-pub turn-finished : (n : ℕ) (given list scratch : List ℕ) (r : ListResult) → Turns n given list scratch r → r .number ≡ finished → Fine n given × Turned n given (sets r)
+pub turn-finished : (n : ℕ) (given list scratch : List ℕ) (r : ListResult) → Turns n given list scratch r → r .number ≡ finished → Fine n given × Turned n given (listedSets r)
 turn-finished n given list scratch r p = subst Says (sym (p .says)) (cond-case Says (eqb refusal 0) taken refused)
   where
     refusal : ℕ
     refusal = turnRefusal n given (length list) (length scratch)
 
     Says : ListResult → Type 0
-    Says r = r .number ≡ finished → Fine n given × Turned n given (sets r)
+    Says r = r .number ≡ finished → Fine n given × Turned n given (listedSets r)
 
     taken : eqb refusal 0 ≡ true → Says (givenOut (p .turned) list scratch)
     taken t e = (checked-fine n given (length list) (length scratch) (eqb-true refusal 0 t), rw (given-out (p .turned) list scratch e) (p .exact))
@@ -71,12 +71,12 @@ module _ (n : ℕ) (hard soft list scratch : List ℕ) (r : ListResult) (p : Lis
   refusal = listRefusal n hard soft (length list) (length scratch)
 
   -- List has listed the ways out
-  pub list-finished : r .number ≡ finished → Exactly (WayOut (setup n hard soft)) (sets r)
+  pub list-finished : r .number ≡ finished → Exactly (WayOut (setup n hard soft)) (listedSets r)
   unfolding refusal
   list-finished = subst Says (sym (p .says)) (cond-case Says (eqb refusal 0) (λ t. cond-case Says (p .met) (λ m. met) (λ m. none)) refused)
     where
       Says : ListResult → Type 0
-      Says r = r .number ≡ finished → Exactly (WayOut (setup n hard soft)) (sets r)
+      Says r = r .number ≡ finished → Exactly (WayOut (setup n hard soft)) (listedSets r)
 
       met : Says (givenOut (p .ways) list scratch)
       met e = rw (given-out (p .ways) list scratch e) (p .exact)
@@ -88,23 +88,12 @@ module _ (n : ℕ) (hard soft list scratch : List ℕ) (r : ListResult) (p : Lis
       refused t e = absurd (eqb-false refusal 0 t e)
 
   -- under Unmet it has listed none, as there are none
-  refusal-not-unmet : refusal ≢ unmet
+  pub list-unmet : r .number ≡ unmet → (listedSets r ≡ []) × (¬ Together (setup n hard soft) 0)
   unfolding refusal
-  refusal-not-unmet =
-      check-other (ltb variablesMost n) Vars _ unmet (refused-not-unmet Vars)
-      (check-other (ltb hardBytesMost (length hard) || (ltb softBytesMost (length soft) || ltb setsMost (length list))) Size _ unmet (refused-not-unmet Size)
-      (check-other (leb (length scratch) (length list)) Work _ unmet (refused-not-unmet Work)
-      (check-other (offends (noClauseByte n) hard || offends (noClauseByte n) soft) Literal _ unmet (refused-not-unmet Literal)
-      (check-other (not (ended hard) || not (ended soft)) Tail _ unmet (refused-not-unmet Tail)
-      (check-other (long hard || long soft) Long _ unmet (refused-not-unmet Long)
-      (check-other (ltb settingsMost (length (settings soft))) Softs 0 unmet (refused-not-unmet Softs) (λ e. let z : ⊥ = omega arith in z)))))))
-
-  pub list-unmet : r .number ≡ unmet → (sets r ≡ []) × (¬ Together (setup n hard soft) 0)
-  unfolding refusal
-  list-unmet = subst Says (sym (p .says)) (cond-case Says (eqb refusal 0) (λ t. cond-case Says (p .met) (λ m. met) none) (λ t e. absurd (refusal-not-unmet e)))
+  list-unmet = subst Says (sym (p .says)) (cond-case Says (eqb refusal 0) (λ t. cond-case Says (p .met) (λ m. met) none) (λ t e. absurd (let z : ⊥ = omega (arith, list-most n hard soft (length list) (length scratch)) in z)))
     where
       Says : ListResult → Type 0
-      Says r = r .number ≡ unmet → (sets r ≡ []) × (¬ Together (setup n hard soft) 0)
+      Says r = r .number ≡ unmet → (listedSets r ≡ []) × (¬ Together (setup n hard soft) 0)
 
       met : Says (givenOut (p .ways) list scratch)
       met e = absurd (given-out-not-unmet (p .ways) list scratch e)

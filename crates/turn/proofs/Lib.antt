@@ -1,6 +1,6 @@
 -- The laws behind Turn, and what its promise says.
 
--- sets of one setting
+-- the lowest setting of a set
 mod Single
 -- members, hit and unhit
 mod Members

@@ -1,41 +1,35 @@
 -- Members, hit and unhit: which setting hits one alone, and what is left of a list of members from some place on.
 use mathlib.Core.Path.{_≡_, refl, sym, _∙_}
 use mathlib.Core.Logic.{_⊎_, inl, inr, ⊎-elim, _≢_, _↔_, Iff·trans}
-use mathlib.Core.List.{List, [], _∷_}
-use Prim.Native.Nat.{ℕ, zero, suc, _+_, _-_, _≤_, _<_}
-use native.Mathlib.Nat.{not-suc-le-zero, le-of-suc-le-suc}
+use mathlib.Core.List.{List, _∷_}
+use Prim.Native.Nat.{ℕ, _+_, _≤_, _<_}
 use lib.Bits.{bitAnd, bitOr}
 use lib.ListN.{length, getD, drop, drop-of-length-le}
-use Rattle.sets.specs.Sets.{In, Share, only}
-use Rattle.sets.specs.Lists.{Listed}
+use Rattle.numbers.proofs.Places.{front}
+use Rattle.sets.specs.Sets.{In, Share, AtMostOne}
 use Rattle.sets.proofs.Digits.{member, none-in, and-in, or-joins}
-use Rattle.lent.proofs.Fronts.{front}
+use Rattle.sets.proofs.Lists.{place-listed}
 use Rattle.turn.specs.Members.{Hits, Alone, Own, Waits}
-use Rattle.turn.proofs.Single.{one-only, only-one}
 
 -- ---- the setting that hits a member alone
 
 module _ (M S : ℕ) where
-  -- where S doesn't hit M there is none
-  pub alone-none : bitAnd M S ≡ 0 → (i : ℕ) → In i 0 ↔ Alone M S i
-  alone-none e i = ((λ h. absurd (none-in i h)), λ a. rw e at (and-in M S i .1 (a .member, a .taken)))
-
-  -- where they have one setting in common it is that one
-  pub alone-one : bitAnd (bitAnd M S) (bitAnd M S - 1) ≡ 0 → (i : ℕ) → In i (bitAnd M S) ↔ Alone M S i
-  alone-one e i = (to, λ a. and-in M S i .1 (a .member, a .taken))
+  -- where they have one setting in common it is that one, and where they have none there is none
+  pub alone-one : AtMostOne (bitAnd M S) → (i : ℕ) → In i (bitAnd M S) ↔ Alone M S i
+  alone-one one i = (to, λ a. and-in M S i .1 (a .member, a .taken))
     where
       to : In i (bitAnd M S) → Alone M S i
       to h = record {
         member = and-in M S i .0 h .0;
         taken = and-in M S i .0 h .1;
-        only = λ j m t. one-only (bitAnd M S) e j i (and-in M S j .1 (m, t)) h;
+        only = λ j m t. one j i (and-in M S j .1 (m, t)) h;
       }
 
   -- where they have several there is none
-  pub alone-several : bitAnd (bitAnd M S) (bitAnd M S - 1) ≢ 0 → (i : ℕ) → In i 0 ↔ Alone M S i
-  alone-several ne i = ((λ h. absurd (none-in i h)), λ a. absurd (ne (only-one (bitAnd M S) (single a))))
+  pub alone-several : ¬ AtMostOne (bitAnd M S) → (i : ℕ) → In i 0 ↔ Alone M S i
+  alone-several several i = ((λ h. absurd (none-in i h)), λ a. absurd (several (single a)))
     where
-      single : Alone M S i → (j k : ℕ) → In j (bitAnd M S) → In k (bitAnd M S) → j ≡ k
+      single : Alone M S i → AtMostOne (bitAnd M S)
       single a j k h g =
           let at = and-in M S j .0 h in
           let and = and-in M S k .0 g in
@@ -79,12 +73,6 @@ own-end members S found i l so j = (
 
 -- ---- what is left unhit, as a loop goes through the list
 
--- a place of the list has one of its sets
-listed-at : (list : List ℕ) (i : ℕ) → i < length list → Listed (getD list i 0) list
-listed-at [] i l = absurd (not-suc-le-zero l)
-listed-at (S ∷ list) zero l = inl refl
-listed-at (S ∷ list) (suc i) l = inr (listed-at list i (le-of-suc-le-suc l))
-
 module _ (members : List ℕ) (taken left : ℕ) where
   -- of the members before place i all are hit, where `fewest` is empty; or one of them wants `fewest`
   abbrev pub UnhitSoFar : ℕ → ℕ → Type 0
@@ -100,7 +88,7 @@ module _ (members : List ℕ) (taken left : ℕ) where
 
   -- it is not
   pub waits-here : (i : ℕ) → i < length members → ¬ Share taken (getD members i 0) → Waits members taken left (getD members i 0) (bitAnd (getD members i 0) left)
-  waits-here i l q = record { listed = listed-at members i l; unhit = q; common = and-in (getD members i 0) left }
+  waits-here i l q = record { listed = place-listed members i l; unhit = q; common = and-in (getD members i 0) left }
 
   -- it is not, and of what is wanted so far and what it wants the one or the other is kept
   pub waits-next : (fewest i here kept : ℕ) → i < length members → ¬ Share taken (getD members i 0)

@@ -7,9 +7,8 @@ use native.Mathlib.Decide.{decLt}
 use native.Mathlib.Omega.{arith}
 use lib.ListN.{length, getD, set, take, drop, length-append}
 use lib.Seq.{append-snoc, getD-at}
+use Rattle.numbers.proofs.Places.{front, fill-next}
 use Rattle.sets.specs.Lists.{Listed, Rising}
-use Rattle.lent.proofs.Fronts.{front}
-use Rattle.lent.proofs.Fills.{fill-next}
 use Rattle.turn.specs.Growing.{placed}
 
 -- ---- the list with the set in its place

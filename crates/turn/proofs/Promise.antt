@@ -15,19 +15,19 @@ use Rattle.sets.proofs.Turning.{turn-unique, turn-twice, turn-of-empty, turn-of
 use Rattle.setups.specs.Setups.{setup, count, WayOut, Clash}
 use Rattle.setups.specs.Refusals.{finished, unmet}
 use Rattle.setups.specs.declared.Refusal.{Refusal}
-use Rattle.setups.specs.List.{ListResult, without-list, givenOut, Lists}
+use Rattle.setups.specs.List.{ListResult, listedSets, without-list, givenOut, Lists}
 use Rattle.setups.specs.Turn.{turnRefusal, Turns}
 use Rattle.setups.proofs.Duality.{clashes-turn, ways-out-turn, unmet-empty-clash}
 use Rattle.setups.proofs.Refusals.{number-only, refused-number}
 use Rattle.turn.specs.declared.Turning.{Turning}
 use Rattle.turn.specs.declared.Turning.the-variants.{Listed, Refused}
-use Rattle.turn.specs.Turning.{answered, Promises, sets}
+use Rattle.turn.specs.Turning.{answered, Promises}
 use Rattle.turn.proofs.Computed.{turn-p4, back-p4, back-p14}
 use Rattle.turn.proofs.Finished.{turn-finished, list-finished, list-unmet}
 
 -- ---- no second result
 
-turns-only : (n : ℕ) (given list scratch : List ℕ) (r s : ListResult) → Turns n given list scratch r → Turns n given list scratch s → r ≡ s
+pub turns-only : (n : ℕ) (given list scratch : List ℕ) (r s : ListResult) → Turns n given list scratch r → Turns n given list scratch s → r ≡ s
 turns-only n given list scratch r s p q =
     p .says ∙ ap out (turn-unique n given (p .turned) (q .turned) (p .exact) (q .exact)) ∙ sym (q .says)
   where
@@ -56,42 +56,42 @@ turn-only n given list scratch answer other listAfter scratchAfter listToo scrat
 -- ---- turning twice: `given` and what came of it over the same count, both turns finished
 
 pub turned-twice : (n : ℕ) (given list scratch list′ scratch′ : List ℕ) (r s : ListResult) → Turns n given list scratch r → r .number ≡ finished
-    → Turns n (sets r) list′ scratch′ s → s .number ≡ finished → sets s ≡ given
+    → Turns n (listedSets r) list′ scratch′ s → s .number ≡ finished → listedSets s ≡ given
 turned-twice n given list scratch list′ scratch′ r s p f q g =
     let first = turn-finished n given list scratch r p f in
-    let second = turn-finished n (sets r) list′ scratch′ s q g in
-    turn-twice n given (first .0) (sets r) (sets s) (first .1) (second .1)
+    let second = turn-finished n (listedSets r) list′ scratch′ s q g in
+    turn-twice n given (first .0) (listedSets r) (listedSets s) (first .1) (second .1)
 
 -- the empty list turns into the list of the empty set alone
-pub turn-empty : (n : ℕ) (list scratch : List ℕ) (r : ListResult) → Turns n [] list scratch r → r .number ≡ finished → sets r ≡ 0 ∷ []
-turn-empty n list scratch r p f = turn-unique n [] (sets r) (0 ∷ []) (turn-finished n [] list scratch r p f .1) (turn-of-empty n)
+pub turn-empty : (n : ℕ) (list scratch : List ℕ) (r : ListResult) → Turns n [] list scratch r → r .number ≡ finished → listedSets r ≡ 0 ∷ []
+turn-empty n list scratch r p f = turn-unique n [] (listedSets r) (0 ∷ []) (turn-finished n [] list scratch r p f .1) (turn-of-empty n)
 
 -- and the other way about
-pub turn-empty-set : (n : ℕ) (list scratch : List ℕ) (r : ListResult) → Turns n (0 ∷ []) list scratch r → r .number ≡ finished → sets r ≡ []
-turn-empty-set n list scratch r p f = turn-unique n (0 ∷ []) (sets r) [] (turn-finished n (0 ∷ []) list scratch r p f .1) (turn-of-nothing n)
+pub turn-empty-set : (n : ℕ) (list scratch : List ℕ) (r : ListResult) → Turns n (0 ∷ []) list scratch r → r .number ≡ finished → listedSets r ≡ []
+turn-empty-set n list scratch r p f = turn-unique n (0 ∷ []) (listedSets r) [] (turn-finished n (0 ∷ []) list scratch r p f .1) (turn-of-nothing n)
 
 -- ---- from a list of List
 
 module _ (n : ℕ) (hard soft list scratch : List ℕ) (r : ListResult) (lists : Lists n hard soft list scratch r) where
   -- a finished one turns into exactly the clashes
   module _ (done : r .number ≡ finished) (list′ scratch′ : List ℕ) (s : ListResult)
-      (turns : Turns (count (setup n hard soft)) (sets r) list′ scratch′ s) (done′ : s .number ≡ finished) where
-    pub turn-clashes : Exactly (Clash (setup n hard soft)) (sets s)
+      (turns : Turns (count (setup n hard soft)) (listedSets r) list′ scratch′ s) (done′ : s .number ≡ finished) where
+    pub turn-clashes : Exactly (Clash (setup n hard soft)) (listedSets s)
     turn-clashes =
-        clashes-turn (setup n hard soft) (sets r) (sets s) (list-finished n hard soft list scratch r lists done)
-        (turn-finished (count (setup n hard soft)) (sets r) list′ scratch′ s turns done′ .1)
+        clashes-turn (setup n hard soft) (listedSets r) (listedSets s) (list-finished n hard soft list scratch r lists done)
+        (turn-finished (count (setup n hard soft)) (listedSets r) list′ scratch′ s turns done′ .1)
 
     -- and those turn into the ways out again
-    pub turn-ways-out : (list″ scratch″ : List ℕ) (t : ListResult) → Turns (count (setup n hard soft)) (sets s) list″ scratch″ t → t .number ≡ finished
-        → Exactly (WayOut (setup n hard soft)) (sets t) × (sets t ≡ sets r)
+    pub turn-ways-out : (list″ scratch″ : List ℕ) (t : ListResult) → Turns (count (setup n hard soft)) (listedSets s) list″ scratch″ t → t .number ≡ finished
+        → Exactly (WayOut (setup n hard soft)) (listedSets t) × (listedSets t ≡ listedSets r)
     turn-ways-out list″ scratch″ t again done″ =
-        let turned = turn-finished (count (setup n hard soft)) (sets s) list″ scratch″ t again done″ .1 in
-        let ways = ways-out-turn (setup n hard soft) (sets s) (sets t) turn-clashes turned in
-        (ways, exactly-unique (WayOut (setup n hard soft)) (sets t) (sets r) ways (list-finished n hard soft list scratch r lists done))
+        let turned = turn-finished (count (setup n hard soft)) (listedSets s) list″ scratch″ t again done″ .1 in
+        let ways = ways-out-turn (setup n hard soft) (listedSets s) (listedSets t) turn-clashes turned in
+        (ways, exactly-unique (WayOut (setup n hard soft)) (listedSets t) (listedSets r) ways (list-finished n hard soft list scratch r lists done))
 
   -- under Unmet the list is empty, and its turn is the list of the empty set, the only clash
-  pub turn-unmet : r .number ≡ unmet → (list′ scratch′ : List ℕ) (s : ListResult) → Turns (count (setup n hard soft)) (sets r) list′ scratch′ s
-      → s .number ≡ finished → (sets s ≡ 0 ∷ []) × Exactly (Clash (setup n hard soft)) (sets s)
+  pub turn-unmet : r .number ≡ unmet → (list′ scratch′ : List ℕ) (s : ListResult) → Turns (count (setup n hard soft)) (listedSets r) list′ scratch′ s
+      → s .number ≡ finished → (listedSets s ≡ 0 ∷ []) × Exactly (Clash (setup n hard soft)) (listedSets s)
   turn-unmet none list′ scratch′ s turns done =
       let empty = list-unmet n hard soft list scratch r lists none in
       let only = turn-empty (count (setup n hard soft)) list′ scratch′ s (rw (empty .0) at turns) done in (

@@ -2,7 +2,6 @@
 use mathlib.Core.Path.{_≡_, refl}
 use mathlib.Core.List.{List, [], _∷_}
 use Prim.Native.Nat.{ℕ}
-use lib.ListN.{take}
 use Rattle.setups.specs.Refusals.{numberOf, finished}
 use Rattle.sets.specs.Turns.{Turned}
 use Rattle.setups.specs.List.{ListResult, without-list, givenOut}
@@ -29,7 +28,3 @@ pub record GivesOut (n : ℕ) (given list scratch : List ℕ) (r : ListResult) :
 -- The promise: over n settings, the given list and the two buffers, the answer leaves `listAfter` and `scratchAfter` in them.
 abbrev pub Promises : ℕ → List ℕ → List ℕ → List ℕ → Turning → List ℕ → List ℕ → Type 0
 Promises n given list scratch answer listAfter scratchAfter = Turns n given list scratch (answered answer listAfter scratchAfter)
-
--- the sets that a result of List or of Turn has listed
-abbrev pub sets : ListResult → List ℕ
-sets r = take (r .filled) (r .list)

@@ -6,6 +6,7 @@ use numbers::Setting;
 use sets::EMPTY;
 use sets::SETTINGS_MOST;
 use sets::Set;
+use sets::at_most_one;
 use sets::full;
 use sets::has;
 use sets::meets;
@@ -40,16 +41,12 @@ enum Unhit {
     Wants(Set),
 }
 
-// The taken setting that alone hits the member; the empty set where none or several do. A number and the one before it have nothing in
-// common where the number has one digit 1 only.
+// The taken setting that alone hits the member; the empty set where none or several do.
 fn alone(member: Set, taken: Set) -> Set
     ensures { λ r. ⌜ ((i : ℕ) → In i r ↔ Alone member taken i) ⌝ }
 {
     let hit = member & taken;
-    if hit == EMPTY {
-        return EMPTY;
-    }
-    if hit & (hit - 1) == EMPTY {
+    if at_most_one(hit) {
         return hit;
     }
     EMPTY

@@ -4,10 +4,10 @@ use mathlib.Core.List.{List}
 use Prim.Native.Nat.{ℕ}
 use borrow.Author.Needs.{needs}
 use lib.ListN.{length}
+use Rattle.setups.specs.Settling.{opening}
 use Rattle.setups.specs.Searching as searching
 use Rattle.setups.specs.Ask.{askClauses}
 use Rattle.search.specs.Told.{told}
-use Rattle.ask.specs.Starting.{startOf}
 use Rattle.ask.proofs.Refusing.{Taken, taken}
 use Rattle.ask.proofs.Answering.{readable, gives-model, gives-none, gives-spent}
 use Rattle.ask.proofs.answer.Statement.{statement}
@@ -17,8 +17,8 @@ use Rattle.ask.proofs.answer.Tie as tie
 taken-at : (start : tie.Start) → Taken (start .args .count) (start .args .clauses .now) (start .args .assumed .now) (length (start .args .model .now))
 taken-at start = taken _ _ _ _ (start .pre)
 
-start-requires : tie.Need-start-requires
-start-requires c κs = taken-at (c .before .before .before) .variables
+opening-requires : tie.Need-opening-requires
+opening-requires c κs = taken-at (c .before .before .before) .variables
 
 slice-aggregate-visit : tie.Need-slice-aggregate-visit
 slice-aggregate-visit c = search needs
@@ -31,11 +31,11 @@ told-at :
     (c : tie.After-visit) →
     let start = c .before .before .before .before .before .before .args in
     c .visit .result
-    ≡ told (start .budget) 0 (searching.visit (askClauses (start .clauses .now) (start .assumed .now)) (startOf (start .count)))
+    ≡ told (start .budget) 0 (searching.visit (askClauses (start .clauses .now) (start .assumed .now)) (opening (start .count)))
 told-at c =
     let start = c .before .before .before .before .before .before .args in
     let cs = askClauses (start .clauses .now) (start .assumed .now) in
-    c .visit .ensures ∙ ap (λ (values : List ℕ). told (start .budget) 0 (searching.visit cs values)) (c .before .before .start .ensures)
+    c .visit .ensures ∙ ap (λ (values : List ℕ). told (start .budget) 0 (searching.visit cs values)) (c .before .before .opening .ensures)
 
 enum-told : tie.Need-enum-told
 enum-told c = search needs
@@ -70,7 +70,7 @@ pub answer-spec : {M : Type 1} → statement M
 answer-spec =
     tie.close
     (tie.spec
-    start-requires
+    opening-requires
     slice-aggregate-visit
     visit-requires
     enum-told

@@ -4,7 +4,7 @@ use mathlib.Core.List.{List, _++_}
 use Prim.Native.Nat.{ℕ, _≤_, _-_}
 use native.Mathlib.Omega.{arith}
 use lib.ListN.{length, getD, set, take, drop, length-set}
-use Rattle.lent.proofs.Fills.{copy-next}
+use Rattle.numbers.proofs.Places.{copy-next}
 use Rattle.lent.proofs.copy_out.Statement.{statement}
 use Rattle.lent.proofs.copy_out.Tie as tie
 

@@ -1,9 +1,8 @@
 -- `list::give_out` meets its contract: a dead root is Unmet, and from a live one the walk goes through all ways out.
-use mathlib.Core.Path.{_≡_, sym, subst}
+use mathlib.Core.Path.{_≡_, subst}
 use mathlib.Core.List.{[]}
 use borrow.Author.Needs.{needs}
 use native.Mathlib.Omega.{arith}
-use lib.Seq.{length-take-le}
 use Rattle.setups.specs.Setups.{setup}
 use Rattle.list.specs.declared.walk.Branch.{Branch}
 use Rattle.list.specs.declared.walk.Branch.the-variants.{Live, Dead}
@@ -77,16 +76,8 @@ same-length-2 c = search needs
 returns-2 : tie.Need-returns-2
 returns-2 c = whole-many (whole (c .before .before .before)) (c .if1 .taken)
 
-slice-reshare-prefix-copy-out : tie.Need-slice-reshare-prefix-copy-out
-slice-reshare-prefix-copy-out c = search needs
-
-slice-aggregate-copy-out : tie.Need-slice-aggregate-copy-out
-slice-aggregate-copy-out c = let w = c .before .before .before .before .walk in sym (length-take-le (w .result) (w .last .1 .1 .1 .1 .0) (omega arith))
-
 copy-out-requires : tie.Need-copy-out-requires
-copy-out-requires c κs =
-    let w = c .before .before .before .before .before .walk in
-    omega (arith, length-take-le (w .result) (w .last .1 .1 .1 .1 .0) (omega arith))
+copy-out-requires c κs = search needs
 
 same-length-3 : tie.Need-same-length-3
 same-length-3 c = search needs
@@ -113,8 +104,6 @@ give-out-spec =
     walk-requires
     same-length-2
     returns-2
-    slice-reshare-prefix-copy-out
-    slice-aggregate-copy-out
     copy-out-requires
     same-length-3
     same-length-4

@@ -1,20 +1,22 @@
--- `turn::alone` meets its contract: what the member and the taken settings have in common is none, one or several.
+-- `turn::alone` meets its contract: what the member and the taken settings have in common is one setting at the most, or several.
 use borrow.Author.Needs.{needs}
-use Rattle.turn.proofs.Members.{alone-none, alone-one, alone-several}
+use Rattle.turn.proofs.Members.{alone-one, alone-several}
+use Rattle.lent.proofs.Fronts.{refuted}
 use Rattle.turn.proofs.alone.Statement.{statement}
 use Rattle.turn.proofs.alone.Tie as tie
 
-returns : tie.Need-returns
-returns c = alone-none (c .before .args .member) (c .before .args .taken) (c .if1 .taken)
+at-most-one-requires : tie.Need-at-most-one-requires
+at-most-one-requires c κs = search needs
 
-sub-if2 : tie.Need-sub-if2
-sub-if2 c = search needs
+returns : tie.Need-returns
+returns c =
+    let a = c .before .before .args in
+    alone-one (a .member) (a .taken) (c .before .at-most-one .ensures .0 (c .if1 .taken))
 
 returns-2 : tie.Need-returns-2
-returns-2 c = alone-one (c .before .before .args .member) (c .before .before .args .taken) (c .if2 .taken)
-
-returns-3 : tie.Need-returns-3
-returns-3 c = alone-several (c .before .before .args .member) (c .before .before .args .taken) (c .if2 .left)
+returns-2 c =
+    let a = c .before .before .args in
+    alone-several (a .member) (a .taken) (refuted (c .before .at-most-one .ensures) (c .if1 .left))
 
 pub alone-spec : {M : Type 1} → statement M
-alone-spec = tie.close (tie.spec returns sub-if2 returns-2 returns-3)
+alone-spec = tie.close (tie.spec at-most-one-requires returns returns-2)

@@ -3,8 +3,9 @@ use mathlib.Core.Path.{_≡_, sym, ap, _∙_}
 use Prim.Native.Nat.{ℕ}
 use native.Mathlib.Omega.{arith}
 use borrow.Author.Needs.{needs}
-use Rattle.frames.specs.declared.writing.Judged.{Judged}
-use Rattle.frames.specs.Write.{setupRefusal, judgedOf}
+use Rattle.setups.specs.declared.judging.Judged.{Judged}
+use Rattle.setups.specs.Checks.{judgedOf}
+use Rattle.frames.specs.Write.{setupRefusal}
 use Rattle.frames.proofs.ClauseLines.{measured}
 use Rattle.frames.proofs.Refusing.{Fine, fine, unfit, no-room, wrote}
 use Rattle.frames.proofs.writing.write.Statement.{statement}
@@ -33,7 +34,7 @@ enum-told c = search needs
 text-length-requires : tie.Need-text-length-requires
 text-length-requires c κs =
     let f = is-fine c in
-    (f .hard-size, f .soft-size, f .hard-ended, f .soft-ended)
+    (f .hard-size, f .soft-size, f .in-clauses .hard-ended, f .in-clauses .soft-ended)
 
 returns-2 : tie.Need-returns-2
 returns-2 c = no-room (c .before .before .before .before .before .before .before .before .args .count) _ _ (c .before .before .before .before .before .before .before .before .args .text .now) (taken (c .before .before)) (omega (arith, c .before .text-length .ensures, c .if1 .taken))
@@ -42,7 +43,7 @@ put-setup-requires : tie.Need-put-setup-requires
 put-setup-requires c κs =
     let f = is-fine (c .before .before .before) in
     let a = c .before .before .before .before .before .before .before .before .before .args in
-    (f .variables, f .hard-ended, f .soft-ended, omega (arith, measured (a .count) (a .hard .now) (a .soft .now), c .before .before .text-length .ensures, c .before .if1 .left))
+    (f .variables, f .in-clauses .hard-ended, f .in-clauses .soft-ended, omega (arith, measured (a .count) (a .hard .now) (a .soft .now), c .before .before .text-length .ensures, c .before .if1 .left))
 
 same-length : tie.Need-same-length
 same-length c = search needs

@@ -19,7 +19,7 @@ use Rattle.list.proofs.walk.+walk.Lts-walk as walk-lts
 use Rattle.list.proofs.walk.enter.Reads as enter-reads
 use Rattle.list.proofs.walk.give_up.Reads as give-up-reads
 use Rattle.list.proofs.walk.keeping.Reads as keeping-reads
-use Rattle.list.proofs.places.store.Reads as store-reads
+use Rattle.list.proofs.walk.store.Reads as store-reads
 use Rattle.list.proofs.walk.+walk.{statement}
 use Rattle.list.proofs.walk.+walk.Tie.{close}
 

@@ -15,11 +15,11 @@ array-read-if1 c = search needs
 returns : tie.Need-returns
 returns c = rw (c .before .place .ensures) at (c .if1 .taken)
 
-lowest-free-requires : tie.Need-lowest-free-requires
-lowest-free-requires c κs = search needs
+lowest-requires : tie.Need-lowest-requires
+lowest-requires c κs = search needs
 
 returns-2 : tie.Need-returns-2
 returns-2 c = search needs
 
 pub choose-spec : {M : Type 1} → statement M
-choose-spec = tie.close (tie.spec propose-requires place-requires array-read-if1 returns lowest-free-requires returns-2)
+choose-spec = tie.close (tie.spec propose-requires place-requires array-read-if1 returns lowest-requires returns-2)

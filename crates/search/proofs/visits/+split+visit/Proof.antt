@@ -1,14 +1,18 @@
 -- `visits::visit` and `visits::split` meet their contracts. The free values fall around the cycle: a settled visit has no more of them
 -- than it began with, and each side of a split has one fewer.
-use mathlib.Core.Path.{_≡_, sym, _∙_}
-use Prim.Native.Nat.{ℕ, _+_, _*_, _≤_, _<_}
+use mathlib.Core.Path.{_≡_, sym, ap, _∙_}
+use Prim.Native.Nat.{ℕ, _+_, _-_, _*_, _≤_, _<_}
 use native.Mathlib.Omega.{arith}
 use borrow.Author.Needs.{needs}
 use borrow.Fn.Kinds.{In}
 use borrow.Fn.PlainCycle.{Measures, is, falls, and}
-use lib.ListN.{length, getD}
+use lib.ListN.{length, getD, set}
 use Rattle.setups.specs.Searching as searching
+use Rattle.numbers.proofs.value_place.Reads as value-place-reads
 use Rattle.setups.proofs.Settling.{free-inside}
+use Rattle.setups.proofs.lowest_free.Reads as lowest-free-reads
+use Rattle.search.specs.Scans.{clausesOf}
+use Rattle.search.specs.Told.{told}
 use Rattle.search.proofs.Telling.{model-not-none, spent-not-none, first-tells, second-tells}
 use Rattle.search.proofs.VisitLaws.{lowest-free, sides-fewer, visit-spent, visit-fails, visit-models, visit-splits, visit-fewer}
 use Rattle.search.proofs.visits.split.Reads as split
@@ -17,7 +21,6 @@ use Rattle.search.proofs.visits.+split+visit.Lts-split as split-lts
 use Rattle.search.proofs.visits.visit.Reads as visit
 use Rattle.search.proofs.visits.visit.Kinds as visit-kinds
 use Rattle.search.proofs.visits.+split+visit.Lts-visit as visit-lts
-use Rattle.search.proofs.visits.lowest_free.Reads as lowest-free-reads
 use Rattle.search.proofs.visits.settle.Reads as settle-reads
 use Rattle.search.proofs.visits.without_model.Reads as without-model-reads
 use Rattle.search.proofs.visits.+split+visit.{statement}
@@ -43,7 +46,7 @@ visit-below t = and 3 visit-kinds.ps (falls 3 visit-kinds.ps _<_ μ-visit t) vis
 
 -- what split and visit know of their callees
 abbrev split-calls : ℕ → split-lts.Claims
-split-calls t = (visit-below t, visit.Post)
+split-calls t = (value-place-reads.Asked, value-place-reads.Learnt, visit-below t, visit.Post)
 
 abbrev visit-calls : ℕ → visit-lts.Claims
 visit-calls t = (
@@ -57,16 +60,37 @@ visit-calls t = (
   split.Post,
 )
 
-split-array-write-low : (t : ℕ) → split-lts.Need-array-write-low (split-calls t) (split-at t) split.Post
-split-array-write-low t c =
-    let start = c .before .before .before in
+split-value-place-requires : (t : ℕ) → split-lts.Need-value-place-requires (split-calls t) (split-at t) split.Post
+split-value-place-requires t c κs = search needs
+
+-- the place of the variable that is split on
+split-place :
+    (t : ℕ) (c : split-lts.After-value-place (split-calls t) (split-at t) split.Post) →
+    let start = c .before .before .before .before .args in
+    (c .value-place .result ≡ start .variable .0 - 1) × (c .value-place .result < 64)
+split-place t c =
+    let start = c .before .before .before .before in
     let n : length (start .args .values) ≡ 64 = search needs in
-    omega (arith, free-inside (start .args .values) (start .args .at) (start .pre .1 .1))
+    let free = free-inside (start .args .values) (start .args .variable .0 - 1) (start .pre .1 .1 .1) in
+    let e : c .value-place .result ≡ start .args .variable .0 - 1 = omega (arith, c .value-place .ensures, start .pre .1 .1 .0) in
+    (e, omega arith)
+
+-- each side has a free value fewer
+split-fewer :
+    (t : ℕ) (c : split-lts.After-value-place (split-calls t) (split-at t) split.Post) →
+    let values = c .before .before .before .before .args .values in
+    (searching.freeCount (set values (c .value-place .result) 0) < searching.freeCount values)
+    × (searching.freeCount (set values (c .value-place .result) 1) < searching.freeCount values)
+split-fewer t c =
+    let start = c .before .before .before .before in
+    let free : 2 ≤ getD (start .args .values) (c .value-place .result) 0 = rw (split-place t c .0) (start .pre .1 .1 .1) in
+    sides-fewer (start .args .values) (c .value-place .result) free
+
+split-array-write-low : (t : ℕ) → split-lts.Need-array-write-low (split-calls t) (split-at t) split.Post
+split-array-write-low t c = split-place t c .1
 
 split-visit-requires : (t : ℕ) → split-lts.Need-visit-requires (split-calls t) (split-at t) split.Post
-split-visit-requires t c κs =
-    let start = c .before .before .before in
-    (omega (arith, sides-fewer (start .args .values) (start .args .at) (start .pre .1 .1)), start .pre .1 .0)
+split-visit-requires t c κs = (omega (arith, split-fewer t c), c .before .before .before .before .pre .1 .0)
 
 split-enum-told : (t : ℕ) → split-lts.Need-enum-told (split-calls t) (split-at t) split.Post
 split-enum-told t c = search needs
@@ -78,30 +102,44 @@ split-enum-told-3 : (t : ℕ) → split-lts.Need-enum-told-3 (split-calls t) (sp
 split-enum-told-3 t c = search needs
 
 split-array-write-high : (t : ℕ) → split-lts.Need-array-write-high (split-calls t) (split-at t) split.Post
-split-array-write-high t c =
-    let start = c .before .before .before .before .before .before in
-    let n : length (start .args .values) ≡ 64 = search needs in
-    omega (arith, free-inside (start .args .values) (start .args .at) (start .pre .1 .1))
+split-array-write-high t c = split-place t (c .before .before .before) .1
 
 split-visit-requires-2 : (t : ℕ) → split-lts.Need-visit-requires-2 (split-calls t) (split-at t) split.Post
 split-visit-requires-2 t c κs =
-    let start = c .before .before .before .before .before .before in
-    (omega (arith, sides-fewer (start .args .values) (start .args .at) (start .pre .1 .1)), start .pre .1 .0)
+    let place = c .before .before .before in
+    (omega (arith, split-fewer t place), place .before .before .before .before .pre .1 .0)
+
+-- what the first side tells, by the variable
+low-tells :
+    (t : ℕ) (c : split-lts.After-visit (split-calls t) (split-at t) split.Post) →
+    let start = c .before .before .before .before .before .args in
+    c .visit .result
+    ≡ told (start .budget) (start .used)
+    (searching.visit (clausesOf (start .first .now) (start .second .now) (start .assumed .now)) (set (start .values) (start .variable .0 - 1) 0))
+low-tells t c =
+    let start = c .before .before .before .before .before .args in
+    let cs = clausesOf (start .first .now) (start .second .now) (start .assumed .now) in
+    c .visit .ensures
+    ∙ ap (λ (at : ℕ). told (start .budget) (start .used) (searching.visit cs (set (start .values) at 0))) (split-place t (c .before) .0)
 
 split-returns : (t : ℕ) → split-lts.Need-returns (split-calls t) (split-at t) split.Post
 split-returns t c =
     let low = c .before .before in
-    first-tells _ _ _ _ (low .visit .result) (low .visit .ensures) (λ e. model-not-none (sym (c .enum-told .given .1) ∙ e))
+    first-tells _ _ _ _ (low .visit .result) (low-tells t low) (λ e. model-not-none (sym (c .enum-told .given .1) ∙ e))
 
 split-returns-2 : (t : ℕ) → split-lts.Need-returns-2 (split-calls t) (split-at t) split.Post
 split-returns-2 t c =
     let low = c .before .before in
-    first-tells _ _ _ _ (low .visit .result) (low .visit .ensures) (λ e. spent-not-none (sym (c .enum-told2 .given .1) ∙ e))
+    first-tells _ _ _ _ (low .visit .result) (low-tells t low) (λ e. spent-not-none (sym (c .enum-told2 .given .1) ∙ e))
 
 split-returns-3 : (t : ℕ) → split-lts.Need-returns-3 (split-calls t) (split-at t) split.Post
 split-returns-3 t c =
     let low = c .before .before .before in
-    second-tells _ _ _ _ (low .visit .result) (c .visit2 .result) (low .visit .ensures) (c .before .enum-told3 .given .1) (c .visit2 .ensures)
+    let start = low .before .before .before .before .before .args in
+    let cs = clausesOf (start .first .now) (start .second .now) (start .assumed .now) in
+    second-tells _ _ _ _ (low .visit .result) (c .visit2 .result) (low-tells t low) (c .before .enum-told3 .given .1)
+    (c .visit2 .ensures
+    ∙ ap (λ (at : ℕ). told (start .budget) (low .visit .result .used) (searching.visit cs (set (start .values) at 1))) (split-place t (low .before) .0))
 
 visit-without-model-requires : (t : ℕ) → visit-lts.Need-without-model-requires (visit-calls t) (visit-at t) visit.Post
 visit-without-model-requires t c κs = search needs
@@ -129,38 +167,47 @@ visit-returns-2 t c =
 visit-lowest-free-requires : (t : ℕ) → visit-lts.Need-lowest-free-requires (visit-calls t) (visit-at t) visit.Post
 visit-lowest-free-requires t c κs = search needs
 
+visit-cast-if3 : (t : ℕ) → visit-lts.Need-cast-if3 (visit-calls t) (visit-at t) visit.Post
+visit-cast-if3 t c = search needs
+
 visit-returns-3 : (t : ℕ) → visit-lts.Need-returns-3 (visit-calls t) (visit-at t) visit.Post
 visit-returns-3 t c =
-    let settled = c .before .before .before .before in
+    let lowest = c .before .before in
+    let settled = lowest .before .before .before in
     let n : length (settled .settle .result .values) ≡ 64 = search needs in
-    visit-models _ _ _ _ (settled .before .if1 .left) (settled .settle .result) (settled .settle .ensures) (c .before .before .before .if2 .left)
-    (sym (c .before .lowest-free .ensures) ∙ c .if3 .taken ∙ sym n)
+    visit-models _ _ _ _ (settled .before .if1 .left) (settled .settle .result) (settled .settle .ensures) (lowest .before .before .if2 .left)
+    (omega (arith, lowest .lowest-free .ensures, c .if3 .taken))
 
--- the place that a visit splits at
-splits-at :
+-- the variable that a visit splits on
+splits-on :
     (t : ℕ) (c : visit-lts.Else3 (visit-calls t) (visit-at t) visit.Post) →
-    let end = c .before .before .before .before .settle .result .values in
-    (2 ≤ getD end (c .before .lowest-free .result) 0) × (c .before .lowest-free .result < length end)
-splits-at t c =
-    let end = c .before .before .before .before .settle .result .values in
+    let lowest = c .before .before in
+    let end = lowest .before .before .before .settle .result .values in
+    let variable = lowest .lowest-free .result .0 in
+    (0 < variable) × (2 ≤ getD end (variable - 1) 0) × (variable - 1 ≡ searching.lowestFree end)
+splits-on t c =
+    let lowest = c .before .before in
+    let end = lowest .before .before .before .settle .result .values in
     let n : length end ≡ 64 = search needs in
-    let free : 2 ≤ getD end (c .before .lowest-free .result) 0 =
-    rw (c .before .lowest-free .ensures) (lowest-free end (λ e. c .if3 .left (c .before .lowest-free .ensures ∙ e ∙ n))) in
-    (free, free-inside end (c .before .lowest-free .result) free)
+    let e : lowest .lowest-free .result .0 - 1 ≡ searching.lowestFree end = omega (arith, lowest .lowest-free .ensures) in
+    (omega (arith, lowest .lowest-free .ensures), rw e (lowest-free end (λ e. let b : ⊥ = omega (arith, lowest .lowest-free .ensures, c .if3 .left) in b)), e)
 
 visit-split-requires : (t : ℕ) → visit-lts.Need-split-requires (visit-calls t) (visit-at t) visit.Post
 visit-split-requires t c κs =
-    let settled = c .before .before .before .before in
+    let settled = c .before .before .before .before .before in
     let start = settled .before .before .before .before .before in
     let fewer = visit-fewer _ _ _ _ (settled .before .if1 .left) (settled .settle .result) (settled .settle .ensures) in
-    (omega arith, (start .pre .1, splits-at t c .0))
+    let on = splits-on t c in
+    (omega arith, (start .pre .1, (on .0, on .1)))
 
 visit-returns-4 : (t : ℕ) → visit-lts.Need-returns-4 (visit-calls t) (visit-at t) visit.Post
 visit-returns-4 t c =
-    let settled = c .before .before .before .before .before in
-    c .split .ensures ∙ visit-splits _ _ _ _ (settled .before .if1 .left) (settled .settle .result) (settled .settle .ensures)
-    (c .before .before .before .before .if2 .left) (c .before .before .lowest-free .result) (c .before .before .lowest-free .ensures)
-    (splits-at t (c .before) .1)
+    let lowest = c .before .before .before in
+    let settled = lowest .before .before .before in
+    let on = splits-on t (c .before) in
+    c .split .ensures
+    ∙ visit-splits _ _ _ _ (settled .before .if1 .left) (settled .settle .result) (settled .settle .ensures) (lowest .before .before .if2 .left)
+    (lowest .lowest-free .result .0 - 1) (on .2) (free-inside (settled .settle .result .values) (lowest .lowest-free .result .0 - 1) (on .1))
 
 pub +split+visit-spec : {M : Type 1} → statement M
 +split+visit-spec =
@@ -171,6 +218,7 @@ pub +split+visit-spec : {M : Type 1} → statement M
     (split-calls t)
     (split-at t)
     split.Post
+    (split-value-place-requires t)
     (split-array-write-low t)
     (split-visit-requires t)
     (split-enum-told t)
@@ -192,6 +240,7 @@ pub +split+visit-spec : {M : Type 1} → statement M
     (visit-without-model-requires-2 t)
     (visit-returns-2 t)
     (visit-lowest-free-requires t)
+    (visit-cast-if3 t)
     (visit-returns-3 t)
     (visit-split-requires t)
     (visit-returns-4 t)

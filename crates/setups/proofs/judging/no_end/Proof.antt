@@ -1,10 +1,10 @@
--- `list::checks::no_end` meets its contract: bytes have no end where the place that Tail finds is one of the buffer's.
+-- `setups::judging::no_end` meets its contract: bytes have no end where the place that Tail finds is one of the buffer's.
 use lib.ListN.{length}
 use borrow.Author.Needs.{needs}
 use Rattle.setups.proofs.CheckLaws.{tail-test}
-use Rattle.list.proofs.Refusing.{either-first, either-second}
-use Rattle.list.proofs.checks.no_end.Statement.{statement}
-use Rattle.list.proofs.checks.no_end.Tie as tie
+use Rattle.setups.proofs.JudgeLaws.{either-first, either-second}
+use Rattle.setups.proofs.judging.no_end.Statement.{statement}
+use Rattle.setups.proofs.judging.no_end.Tie as tie
 
 tail-place-requires : tie.Need-tail-place-requires
 tail-place-requires c κs = search needs

@@ -1,10 +1,10 @@
--- `list::checks::bad_literal` meets its contract: a byte offends where the first that does is one of the buffer's.
+-- `setups::judging::bad_literal` meets its contract: a byte offends where the first that does is one of the buffer's.
 use mathlib.Core.Path.{refl}
 use lib.ListN.{length}
 use borrow.Author.Needs.{needs}
-use Rattle.list.proofs.Refusing.{either-first, either-second}
-use Rattle.list.proofs.checks.bad_literal.Statement.{statement}
-use Rattle.list.proofs.checks.bad_literal.Tie as tie
+use Rattle.setups.proofs.JudgeLaws.{either-first, either-second}
+use Rattle.setups.proofs.judging.bad_literal.Statement.{statement}
+use Rattle.setups.proofs.judging.bad_literal.Tie as tie
 
 first-bad-literal-requires : tie.Need-first-bad-literal-requires
 first-bad-literal-requires c κs = search needs

@@ -1,14 +1,14 @@
--- `values::start` meets its contract. The loop's invariant: the first i variables are free.
+-- `values::opening` meets its contract. The loop's invariant: the first i variables are free.
 use mathlib.Core.Path.{_≡_, refl, ap, _∙_}
 use Prim.Native.Nat.{_≤_, _-_, _<_}
 use native.Mathlib.Omega.{arith}
-use Rattle.ask.specs.Starting.{startOf}
-use Rattle.ask.proofs.Filling.{start-more}
-use Rattle.ask.proofs.values.start.Statement.{statement}
-use Rattle.ask.proofs.values.start.Tie as tie
+use Rattle.setups.specs.Settling.{opening}
+use Rattle.setups.proofs.ValueLaws.{opening-more}
+use Rattle.setups.proofs.values.opening.Statement.{statement}
+use Rattle.setups.proofs.values.opening.Tie as tie
 
 abbrev Inv-loop : tie.InvT-loop
-Inv-loop count values₀ i₀ values i = (i ≤ count) × (values ≡ startOf i)
+Inv-loop count values₀ i₀ values i = (i ≤ count) × (values ≡ opening i)
 
 abbrev μ-loop : tie.MeasureT-loop
 μ-loop count values₀ i₀ values i = count - i
@@ -29,12 +29,12 @@ loop-again : tie.Need-loop-again Inv-loop μ-loop
 loop-again c =
     let at = c .before in
     let l : at .loop .i < 64 = omega arith in
-    (omega arith, rw (at .loop .inv .1) (start-more (at .loop .i) l))
+    (omega arith, rw (at .loop .inv .1) (opening-more (at .loop .i) l))
 
 returns : tie.Need-returns Inv-loop μ-loop
 returns c =
     let e : c .before .loop .i ≡ c .before .before .args .count = omega arith in
-    c .before .loop .inv .1 ∙ ap startOf e
+    c .before .loop .inv .1 ∙ ap opening e
 
-pub start-spec : {M : Type 1} → statement M
-start-spec = tie.close (tie.spec Inv-loop μ-loop loop-holds array-write-values add-i loop-less loop-again returns)
+pub opening-spec : {M : Type 1} → statement M
+opening-spec = tie.close (tie.spec Inv-loop μ-loop loop-holds array-write-values add-i loop-less loop-again returns)

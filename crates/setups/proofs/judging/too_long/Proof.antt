@@ -1,10 +1,10 @@
--- `list::checks::too_long` meets its contract: a clause is too long where the place that Long finds is one of the buffer's.
+-- `setups::judging::too_long` meets its contract: a clause is too long where the place that Long finds is one of the buffer's.
 use lib.ListN.{length}
 use borrow.Author.Needs.{needs}
 use Rattle.setups.proofs.CheckLaws.{long-test}
-use Rattle.list.proofs.Refusing.{either-first, either-second}
-use Rattle.list.proofs.checks.too_long.Statement.{statement}
-use Rattle.list.proofs.checks.too_long.Tie as tie
+use Rattle.setups.proofs.JudgeLaws.{either-first, either-second}
+use Rattle.setups.proofs.judging.too_long.Statement.{statement}
+use Rattle.setups.proofs.judging.too_long.Tie as tie
 
 long-place-requires : tie.Need-long-place-requires
 long-place-requires c κs = search needs

@@ -1,13 +1,13 @@
--- `values::write_model` meets its contract. The loop's invariant: the first i values are copied, and the places beyond are as they were.
+-- `write_model` meets its contract. The loop's invariant: the first i values are copied, and the places beyond are as they were.
 use mathlib.Core.Path.{_≡_, refl, ap, _∙_}
 use mathlib.Core.List.{List, _++_}
 use Prim.Native.Nat.{ℕ, _≤_, _<_, _-_}
 use native.Mathlib.Omega.{arith}
 use borrow.Author.Needs.{needs}
 use lib.ListN.{length, getD, take, drop, set, length-set}
-use Rattle.ask.proofs.Filling.{copy-more}
-use Rattle.ask.proofs.values.write_model.Statement.{statement}
-use Rattle.ask.proofs.values.write_model.Tie as tie
+use Rattle.numbers.proofs.Places.{copy-next}
+use Rattle.ask.proofs.write_model.Statement.{statement}
+use Rattle.ask.proofs.write_model.Tie as tie
 
 abbrev Inv-loop : tie.InvT-loop
 Inv-loop model₀ count values i₀ model i =
@@ -42,7 +42,7 @@ loop-again c =
       omega arith,
       simp length-set (at .loop .inv .1),
       at .loop .inv .2,
-      ap (λ (places : List ℕ). set places i (getD values i 0)) (at .loop .inv .3) ∙ copy-more values model i h l,
+      ap (λ (places : List ℕ). set places i (getD values i 0)) (at .loop .inv .3) ∙ copy-next values model i h l,
     )
 
 same-length : tie.Need-same-length Inv-loop μ-loop

@@ -1,14 +1,14 @@
--- `frames::writing::clause_count` meets its contract: `count`, at most `i`, and the clauses of the bytes from `i` on make all of them.
+-- `checks::clause_count` meets its contract. The loop's invariant: `count`, at most `i`, and the clauses of the bytes from `i` on make
+-- all of them.
 use mathlib.Core.Path.{refl}
 use mathlib.Core.Logic.{⊎-elim}
 use Prim.Native.Nat.{_-_, _≤_}
 use native.Mathlib.Omega.{arith}
 use lib.ListN.{length}
 use Rattle.setups.specs.Clauses.{clauses}
-use Rattle.setups.proofs.CheckLaws.{Walked, walk-starts, walk-counts, walk-passes, walk-ends}
-use Rattle.frames.proofs.ClauseLines.{count-end, count-literal}
-use Rattle.frames.proofs.writing.clause_count.Statement.{statement}
-use Rattle.frames.proofs.writing.clause_count.Tie as tie
+use Rattle.setups.proofs.CheckLaws.{Walked, walk-starts, walk-counts, walk-passes, walk-ends, clauses-end, clauses-literal}
+use Rattle.setups.proofs.checks.clause_count.Statement.{statement}
+use Rattle.setups.proofs.checks.clause_count.Tie as tie
 
 abbrev Inv-loop : tie.InvT-loop
 Inv-loop bytes count₀ i₀ count i = (count ≤ i) × Walked (λ rest. length (clauses rest)) bytes (length (clauses bytes)) count i
@@ -35,8 +35,8 @@ loop-again : tie.Need-loop-again Inv-loop μ-loop
 loop-again c =
     let at = c .before .before .before .loop .inv .1 in
     let below = c .before .before .loop-test .taken in
-    ⊎-elim (λ w. (omega arith, rw (w .1) (walk-counts at _ below (count-end _ (w .0 .taken)))))
-    (λ w. (omega arith, rw (w .1) (walk-passes at _ below (count-literal _ (w .0 .left))))) (c .if1 .came)
+    ⊎-elim (λ w. (omega arith, rw (w .1) (walk-counts at _ below (clauses-end _ (w .0 .taken)))))
+    (λ w. (omega arith, rw (w .1) (walk-passes at _ below (clauses-literal _ (w .0 .left))))) (c .if1 .came)
 
 returns : tie.Need-returns Inv-loop μ-loop
 returns c = walk-ends (c .before .loop .inv .1) (c .loop-test .left) refl
