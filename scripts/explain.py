@@ -6,6 +6,7 @@ TEXT is the setup, ANSWER what the program put out for it. NAMES has the setting
 none is called by its number. Nothing is decided here: the marks are asked of the job Mark, through the program `calls`.
 """
 
+import signal
 import subprocess
 import sys
 from pathlib import Path
@@ -26,7 +27,7 @@ REFUSALS = {
     12: "its rules take more than 8,192 bytes or its settings more than 2,048",
 }
 
-MARKS = {"K": "kept: no way out gives it up", "L": "lost: every way out gives it up", "O": "open: some ways out give it up"}
+MARKS = {"K": "kept, no way out gives it up", "L": "lost, every way out gives it up", "O": "open, some ways out give it up"}
 
 
 def named(beside: Path) -> list[str]:
@@ -53,21 +54,27 @@ def marks_of(settings: int, ways_out: list[int]) -> str:
     return "" if marks == "-" else bytes.fromhex(marks).decode("ascii")
 
 
+def print_sets(title: str, sets: list[int], names: list[str]) -> None:
+    print(title)
+    for each in sets:
+        print(f"  - {told(each, names)}")
+
+
 def print_listed(settings: int, ways_out: list[int], clashes: list[int], names: list[str]) -> None:
     if ways_out == [0]:
         print("All of it can be had together: nothing has to be given up.")
     else:
-        print(f"Not all of it can be had together. Ways out, {len(ways_out)}: to give up all of one line is enough.")
-        for way_out in ways_out:
-            print(f"  - {told(way_out, names)}")
-        print(f"Clashes, {len(clashes)}: all of one line can't be had together.")
-        for clash in clashes:
-            print(f"  - {told(clash, names)}")
+        print("Not all of it can be had together.")
+        print_sets(f"Ways out ({len(ways_out)}): give up the settings of one line, and the rest can be had.", ways_out, names)
+        print_sets(f"Clashes ({len(clashes)}): the settings of one line can't all be had.", clashes, names)
+    print(f"Settings ({settings}):")
     for name, mark in zip(names, marks_of(settings, ways_out)):
-        print(f"{name}: {MARKS[mark]}")
+        print(f"  - {name}: {MARKS[mark]}")
 
 
 def main() -> None:
+    # Whoever reads only the first lines ends this quietly.
+    signal.signal(signal.SIGPIPE, signal.SIG_DFL)
     text, answer, names = (Path(each) for each in (sys.argv[1:] + [""])[:3])
     lines = answer.read_text(encoding="ascii").splitlines()
     outcome = int(lines[-1][2:4], 16)

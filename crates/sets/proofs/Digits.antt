@@ -8,7 +8,7 @@ use native.Mathlib.Nat.{not-suc-le-zero, le-of-suc-le-suc, lt-of-lt-of-le, zero-
 use native.Mathlib.Decide.{ℕ-discrete, decLt}
 use native.Mathlib.Omega.{arith}
 use lib.Arith.{bin-ind}
-use lib.Pow.{pow-pos, pow-mono, pow-lt, ones-lt, ones-sub-lt, lt-of-le-ones, shl-exact, pow-add}
+use lib.Pow.{pow-pos, pow-mono, ones-lt, ones-sub-lt, shl-exact, pow-add}
 use lib.Bits.{bitAnd, bitOr, and-step, or-step, and-shr, or-shr, shifted-half, shifted-even}
 use lib.Dec.{T, lit<}
 use borrow.Author.Tests.{lt-ltb, le-leb, lt-leb}
@@ -89,10 +89,6 @@ none-within S i h = absurd (none-in i h)
 -- and only the empty set lies within it
 pub within-none : (S : ℕ) → Within S 0 → S ≡ 0
 within-none S w = within-antisym S 0 w (none-within S)
-
--- two sets with the same digits are the same
-pub ext : (S R : ℕ) → ((i : ℕ) → digit S i ≡ digit R i) → S ≡ R
-ext S R e = within-antisym S R (λ i h. sym (e i) ∙ h) (λ i h. e i ∙ h)
 
 -- two sets with the same members are the same
 pub ext-in : (S R : ℕ) → ((i : ℕ) → In i S ↔ In i R) → S ≡ R
@@ -278,14 +274,6 @@ only-in width (suc i) j = by-cases (decLt i width) one none
     none : ¬ (i < width) → In j (only width (suc i)) ↔ ((suc j ≡ suc i) × (i < width))
     none l = rw (only-none width (suc i) (omega arith)) ((λ h. absurd (none-in j h)), λ h. absurd (l (h .1)))
 
--- it is a set over `width` settings
-pub only-lt : (width number : ℕ) → only width number < 2 ^ width
-only-lt width zero = pow-pos width
-only-lt width (suc i) =
-    by-cases (decLt i width)
-    (λ l. rw (only-place width i l) (pow-lt l))
-    (λ l. rw (only-none width (suc i) (omega arith)) (pow-pos width))
-
 -- to share with the set of the setting at place i is to have that setting
 pub share-only : (width i S : ℕ) → i < width → Share S (only width (suc i)) ↔ In i S
 share-only width i S l = (
@@ -336,10 +324,6 @@ full-in n j = (
   in-below n (ones-lt n),
   λ l. omega (arith, opposite-digit n (2 ^ n - 1) 0 j (omega (arith, pow-pos n)) l, digit-none j),
 )
-
--- a set with no setting from n on is one over n settings
-pub all-below : (n S : ℕ) → ((i : ℕ) → In i S → i < n) → S < 2 ^ n
-all-below n S f = lt-of-le-ones n (within-le S (2 ^ n - 1) (λ i h. full-in n i .1 (f i h)))
 
 -- the set of those of the first n settings that pass the test
 abbrev pub those : ℕ → (ℕ → Bool) → ℕ

@@ -13,7 +13,7 @@ use Rattle.sets.specs.Lists.{Listed, Rising, Apart, Exactly}
 use Rattle.sets.specs.Turns.{Fine}
 use Rattle.sets.specs.Tests.{has, every, all, within, climbs, rises, apart, fine}
 use Rattle.sets.proofs.Deciding.{and-left, and-right, and-both, and-iff, not-iff, or-left, or-right, or-cases}
-use Rattle.sets.proofs.Deciding.{implies-use, implies-make, T-dec, dec-iff}
+use Rattle.sets.proofs.Deciding.{implies-use, implies-make}
 use Rattle.sets.proofs.Digits.{in-below}
 
 -- ---- settings
@@ -170,10 +170,6 @@ listed-iff S (R ∷ list) = both (listed-iff S list)
       (λ t. ⊎-elim (λ e. inl (eqb→eq S R e)) (λ h. inr (rest .0 h)) (or-cases (eqb S R) (listed S list) t)),
       ⊎-elim (λ e. or-left (eqb S R) (listed S list) (rw e (eqb-refl R))) (λ h. or-right (eqb S R) (listed S list) (rest .1 h)),
     )
-
--- a set stands in a list or it does not
-pub listed-dec : (S : ℕ) (list : List ℕ) → Dec (Listed S list)
-listed-dec S list = dec-iff (listed-iff S list .0) (listed-iff S list .1) (T-dec (listed S list))
 
 -- the list rises, each of its sets is below `top` and passes, and each set below `top` that passes stands in it
 abbrev pub lists : ℕ → (ℕ → Bool) → List ℕ → Bool

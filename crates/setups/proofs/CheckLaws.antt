@@ -8,7 +8,7 @@ use native.Mathlib.Nat.{not-suc-le-zero, le-refl, le-of-suc-le-suc, zero-lt-suc,
 use native.Mathlib.Decide.{decLt}
 use native.Mathlib.Numerals.{add-one}
 use native.Mathlib.Omega.{arith}
-use borrow.Author.Tests.{ltb-true, ltb-false, not-false, lt-ltb, le-ltb, eq-eqb, ne-eqb, le-leb, lt-leb}
+use borrow.Author.Tests.{ltb-true, ltb-false, lt-ltb, le-ltb, eq-eqb, ne-eqb, le-leb, lt-leb}
 use lib.Dec.{T, eqb, leb, ltb, leb·suc-suc, ltb→lt, lt→ltb}
 use lib.ListN.{length, getD, drop, drop-of-length-le}
 use Rattle.numbers.proofs.Places.{front}
@@ -130,10 +130,6 @@ T-below p n = (ltb→lt p n, lt→ltb p n)
 whole-iff : (p n : ℕ) → p ≤ n → (ltb p n ≡ false) ↔ (p ≡ n)
 whole-iff p n l = ((λ e. omega (arith, ltb-false p n e)), λ e. le-ltb p n (omega arith))
 
--- `offends` says that some byte does
-pub offends-iff : (test : ℕ → Bool) (bytes : List ℕ) → (offends test bytes ≡ true) ↔ Offence test bytes
-offends-iff test bytes = Iff·trans (below-iff (firstPlace test bytes) (length bytes)) (first-iff test bytes)
-
 -- or that the walk comes to the end
 pub offends-none : (test : ℕ → Bool) (bytes : List ℕ) → (offends test bytes ≡ false) ↔ (firstPlace test bytes ≡ length bytes)
 offends-none test bytes = whole-iff (firstPlace test bytes) (length bytes) (first-le test bytes)
@@ -171,12 +167,6 @@ tail-test (b ∷ bytes) =
     let n = suc (length bytes) in
     bool-case (λ q. ltb (cond q n (n - 1)) n ≡ not q) (ended (b ∷ bytes))
     (λ e. le-ltb n n (le-refl n)) (λ e. lt-ltb (n - 1) n (omega arith))
-
-pub tail-iff : (bytes : List ℕ) → (tailPlace bytes ≡ length bytes) ↔ (ended bytes ≡ true)
-tail-iff bytes = (to, tail-fine bytes)
-  where
-    to : tailPlace bytes ≡ length bytes → ended bytes ≡ true
-    to e = not-false (ended bytes) (sym (tail-test bytes) ∙ le-ltb (tailPlace bytes) (length bytes) (omega arith))
 
 -- ---- Long: the walk
 
@@ -251,12 +241,6 @@ long-after run (suc b ∷ d ∷ bytes) t l =
 -- for ended bytes the place is below the length exactly where a clause is too long
 pub long-test : (bytes : List ℕ) → ended bytes ≡ true → ltb (longPlace 0 bytes) (length bytes) ≡ long bytes
 long-test bytes e = long-after 0 bytes (T-true (ended bytes) .1 e) zero-le ∙ long-whole (clauses bytes)
-
-pub long-iff : (bytes : List ℕ) → ended bytes ≡ true → (long bytes ≡ true) ↔ (longPlace 0 bytes < length bytes)
-long-iff bytes e = rw (← long-test bytes e) (below-iff (longPlace 0 bytes) (length bytes))
-
-pub long-none : (bytes : List ℕ) → ended bytes ≡ true → (long bytes ≡ false) ↔ (longPlace 0 bytes ≡ length bytes)
-long-none bytes e = rw (← long-test bytes e) (whole-iff (longPlace 0 bytes) (length bytes) (long-le 0 bytes))
 
 -- ---- how many clauses, and how many settings
 

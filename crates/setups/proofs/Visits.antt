@@ -45,11 +45,6 @@ settle-fuels (suc f) (suc g) cs values h k = go (scan values cs) refl (settle-fu
     go (OneFree b) e rest = let n = scan-fewer cs values b e in rw (e, settleFor) (rest (put values b) (omega arith) (omega arith))
     go Enough e rest = rw (e, settleFor)
 
--- so that it is the computed settling
-pub settle-fuel : (f : ℕ) (cs : List (List ℕ)) (values : List ℕ) → freeCount values < f → settleFor f cs values ≡ settle cs values
-unfolding settle
-settle-fuel f cs values h = settle-fuels f (suc (freeCount values)) cs values h (le-refl (suc (freeCount values)))
-
 -- settling fails where a scan finds a wholly false clause
 pub settle-fails : (cs : List (List ℕ)) (values : List ℕ) → scan values cs ≡ AllFalse → settle cs values ≡ record { fails = true; values = values }
 unfolding settle

@@ -10,7 +10,7 @@ ghost use Rattle.setups.specs.Refusals.{noLiteral, noClauseByte, firstPl
 ghost use Rattle.setups.specs.Checks.{tailPlace, longPlace, settingPlace};
 
 // The most settings, as a count of places.
-pub const SETTINGS_MOST: usize = sets::SETTINGS_MOST as usize;
+const SETTINGS_MOST: usize = sets::SETTINGS_MOST as usize;
 
 // The byte is no literal of `count` variables.
 fn no_literal(count: u32, byte: u8) -> bool

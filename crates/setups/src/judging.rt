@@ -1,9 +1,9 @@
 // What is judged of a setup's clauses, by the byte checks. Each number is tested over both buffers before the next.
 use crate::Refusal;
-use crate::checks::SETTINGS_MOST;
 use crate::checks::first_bad_literal;
 use crate::checks::long_place;
 use crate::checks::settings_count;
+use crate::checks::softs_place;
 use crate::checks::tail_place;
 ghost use mathlib.Core.Path.{_≡_};
 ghost use mathlib.Core.Bool.{true, not, _||_};
@@ -51,9 +51,8 @@ pub fn judge_clauses(count: u32, hard: &[u8], soft: &[u8]) -> Judged
     if too_long(hard, soft) {
         return Judged::Unfit(Refusal::Long);
     }
-    let settings = settings_count(soft);
-    if SETTINGS_MOST < settings {
+    if softs_place(soft) < soft.len() {
         return Judged::Unfit(Refusal::Softs);
     }
-    Judged::Taken(settings as u32)
+    Judged::Taken(settings_count(soft) as u32)
 }

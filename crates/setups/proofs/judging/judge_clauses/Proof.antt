@@ -1,11 +1,17 @@
 -- `setups::judging::judge_clauses` meets its contract: at each return the tests before have failed, and the one that leads there has not.
-use mathlib.Core.Path.{_≡_, sym, _∙_}
+use mathlib.Core.Path.{_≡_, sym, ap, _∙_}
 use mathlib.Core.Bool.{false, not, _||_}
+use Prim.Native.Nat.{ℕ}
+use native.Mathlib.Omega.{arith}
 use borrow.Author.Needs.{needs}
-use borrow.Author.Tests.{lt-ltb, le-ltb}
+use lib.Dec.{ltb}
+use lib.ListN.{length}
+use borrow.Author.Tests.{lt-ltb, le-ltb, ltb-false}
 use Rattle.setups.specs.declared.Refusal.the-variants.{Literal, Tail, Long, Softs}
 use Rattle.setups.specs.Limits.{settingsMost}
+use Rattle.setups.specs.Setups.{settings}
 use Rattle.setups.specs.Refusals.{noClauseByte, offends, ended, long}
+use Rattle.setups.proofs.CheckLaws.{setting-test}
 use Rattle.setups.proofs.JudgeLaws.{both-ended, unfit, taken}
 use Rattle.setups.proofs.judging.judge_clauses.Statement.{statement}
 use Rattle.setups.proofs.judging.judge_clauses.Tie as tie
@@ -23,6 +29,13 @@ no-tail c = sym (c .before .no-end .ensures) ∙ c .if2 .left
 no-long : (c : tie.Else3)
     → (let a = c .before .before .before .before .before .before .before .before .args in (long (a .hard .now) || long (a .soft .now)) ≡ false)
 no-long c = sym (c .before .too-long .ensures) ∙ c .if3 .left
+
+-- Softs, by the place where one setting too many ends
+softs-test : (c : tie.After-softs-place)
+    → (let soft = c .before .before .before .before .before .before .before .before .before .args .soft .now in ltb (c .softs-place .result) (length soft) ≡ ltb settingsMost (length (settings soft)))
+softs-test c =
+    let soft = c .before .before .before .before .before .before .before .before .before .args .soft .now in
+    ap (λ (place : ℕ). ltb place (length soft)) (c .softs-place .ensures) ∙ setting-test settingsMost soft
 
 -- ---- the returns
 
@@ -48,26 +61,35 @@ returns-3 c =
     let tail = c .before .before in
     unfit Long (λ rest. rw (no-literal (tail .before .before), no-tail tail, sym (c .before .too-long .ensures) ∙ c .if3 .taken))
 
-settings-count-requires : tie.Need-settings-count-requires
-settings-count-requires c κs = search needs
+softs-place-requires : tie.Need-softs-place-requires
+softs-place-requires c κs = search needs
 
 returns-4 : tie.Need-returns-4
 returns-4 c =
-    let counted = c .before .settings-count in
-    let longer = c .before .before in
+    let softs = c .before in
+    let longer = softs .before in
     let tail = longer .before .before in
-    unfit Softs (λ rest. rw (no-literal (tail .before .before), no-tail tail, no-long longer, ← (counted .ensures), lt-ltb settingsMost (counted .result) (c .if4 .taken)))
+    unfit Softs (λ rest. rw (no-literal (tail .before .before), no-tail tail, no-long longer, sym (softs-test softs) ∙ lt-ltb _ _ (c .if4 .taken)))
 
-cast-t13 : tie.Need-cast-t13
-cast-t13 c = search needs
+settings-count-requires : tie.Need-settings-count-requires
+settings-count-requires c κs = search needs
+
+-- the settings are not too many
+few : (c : tie.Else4)
+    → (let soft = c .before .before .before .before .before .before .before .before .before .before .args .soft .now in ltb settingsMost (length (settings soft)) ≡ false)
+few c = sym (softs-test (c .before)) ∙ le-ltb _ _ (c .if4 .left)
+
+cast-t14 : tie.Need-cast-t14
+cast-t14 c =
+    let soft = c .before .before .before .before .before .before .before .before .before .before .before .args .soft .now in
+    omega (arith, c .settings-count .ensures, ltb-false settingsMost (length (settings soft)) (few (c .before)))
 
 returns-5 : tie.Need-returns-5
 returns-5 c =
-    let counted = c .before .settings-count in
-    let longer = c .before .before in
+    let longer = c .before .before .before in
     let tail = longer .before .before in
-    taken (counted .result) (λ rest. rw (no-literal (tail .before .before), no-tail tail, no-long longer, ← (counted .ensures), le-ltb settingsMost (counted .result) (c .if4 .left)))
-    (counted .ensures)
+    taken (c .settings-count .result) (λ rest. rw (no-literal (tail .before .before), no-tail tail, no-long longer, few (c .before)))
+    (c .settings-count .ensures)
 
 pub judge-clauses-spec : {M : Type 1} → statement M
 judge-clauses-spec =
@@ -79,7 +101,8 @@ judge-clauses-spec =
     returns-2
     too-long-requires
     returns-3
-    settings-count-requires
+    softs-place-requires
     returns-4
-    cast-t13
+    settings-count-requires
+    cast-t14
     returns-5)
