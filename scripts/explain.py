@@ -1,9 +1,10 @@
 """Tells what the program waysout answered, in words.
 
-    python3 scripts/explain.py TEXT ANSWER [NAMES]
+    python3 scripts/explain.py TEXT ANSWER [FILE]
 
-TEXT is the setup, ANSWER what the program put out for it. NAMES has the settings' names, one a line in their order; a setting that has
-none is called by its number. Nothing is decided here: the marks are asked of the job Mark, through the program `calls`.
+TEXT is the setup, ANSWER what the program put out for it. The settings' names stand beside FILE, where the text came from, in a file of
+that name but ending in .names, one a line in their order; a setting that has none is called by its number. Nothing is decided here: the
+marks are asked of the job Mark, through the program `calls`.
 """
 
 import signal
@@ -30,9 +31,10 @@ REFUSALS = {
 MARKS = {"K": "kept, no way out gives it up", "L": "lost, every way out gives it up", "O": "open, some ways out give it up"}
 
 
-def named(beside: Path) -> list[str]:
+def named(files: list[str]) -> list[str]:
     """The settings' names, and numbers for those that have none."""
-    names = beside.read_text(encoding="utf-8").splitlines() if beside.is_file() else []
+    beside = [Path(each).with_suffix(".names") for each in files]
+    names = [name for path in beside if path.is_file() for name in path.read_text(encoding="utf-8").splitlines()]
     return names + [f"setting {number}" for number in range(len(names) + 1, MOST_SETTINGS + 1)]
 
 
@@ -75,12 +77,12 @@ def print_listed(settings: int, ways_out: list[int], clashes: list[int], names: 
 def main() -> None:
     # Whoever reads only the first lines ends this quietly.
     signal.signal(signal.SIGPIPE, signal.SIG_DFL)
-    text, answer, names = (Path(each) for each in (sys.argv[1:] + [""])[:3])
+    text, answer = (Path(each) for each in sys.argv[1:3])
     lines = answer.read_text(encoding="ascii").splitlines()
     outcome = int(lines[-1][2:4], 16)
     if outcome == LISTED:
         settings = sum(line.startswith(b"30") for line in text.read_bytes().splitlines())
-        print_listed(settings, sets_of(WAY_OUT, lines), sets_of(CLASH, lines), named(names))
+        print_listed(settings, sets_of(WAY_OUT, lines), sets_of(CLASH, lines), named(sys.argv[3:4]))
     elif outcome == UNMET:
         print("The hardware rules contradict themselves: nothing can be had, whatever is given up.")
     else:
