@@ -157,7 +157,8 @@ def measure_ask(meter: Timer | Counter) -> None:
         taken, fields = meter.best(ask_line(64, random_threes(seed, 64, 300)), ASKS)
         visits = int(fields[2], 16)
         answer = {"00000000": "Model", "00000081": "None"}.get(fields[1], fields[1])
-        print(f"ask, 64 variables, 300 clauses of three, seed {seed}: {answer}, {visits} visits, {taken:.4f} {meter.unit}, {visits / max(taken, 1e-9):,.0f} {meter.rate}")
+        rate = f"{visits / max(taken, 1e-9):,.0f} {meter.rate}"
+        print(f"ask, 64 variables, 300 clauses of three, seed {seed}: {answer}, {visits} visits, {taken:.4f} {meter.unit}, {rate}")
 
 
 def measure_list(meter: Timer | Counter) -> None:
