@@ -2,6 +2,7 @@
 and all assignments; only for few variables and few settings, to check resolver.py by."""
 
 from itertools import product
+from typing import Iterator
 
 
 def is_literal_true(literal: int, assignment: tuple[int, ...]) -> bool:
@@ -11,16 +12,20 @@ def is_literal_true(literal: int, assignment: tuple[int, ...]) -> bool:
     return assignment[literal - 1] == 1
 
 
-def models(count: int, clauses: list[bytes]) -> list[tuple[int, ...]]:
+def models(count: int, clauses: list[bytes]) -> Iterator[tuple[int, ...]]:
     """All models, "in the order of variable 1, then 2, and so on, with 0 before 1"."""
-    return [assignment for assignment in product((0, 1), repeat=count)
+    return (assignment for assignment in product((0, 1), repeat=count)
             if all(any(is_literal_true(literal, assignment) for literal in clause)
-                   for clause in clauses)]
+                   for clause in clauses))
+
+
+def has_model(count: int, clauses: list[bytes]) -> bool:
+    return next(models(count, clauses), None) is not None
 
 
 def sets_with_model(count: int, hard: list[bytes], soft: list[bytes]) -> list[bool]:
     """For each set of settings: have the hard clauses and its settings a common model?"""
-    return [models(count, hard + [soft[place] for place in members(each)]) != []
+    return [has_model(count, hard + [soft[place] for place in members(each)])
             for each in range(1 << len(soft))]
 
 

@@ -7,7 +7,7 @@ from random import Random
 
 from batch import section
 from calls import ALL_JOBS, answer, answers, line_of_call, some_bytes
-from definitions import (clashes_by_definition, models, turned_by_definition,
+from definitions import (clashes_by_definition, has_model, models, turned_by_definition,
                          ways_out_by_definition)
 from frame_classes import all_faults, faults
 from frames import read, text_of, write
@@ -109,7 +109,7 @@ def test_setups(random: Random) -> None:
         ways_out, clashes = ways_out_by_definition(*setup), clashes_by_definition(*setup)
         number, found = listed(list_ways_out, count, buffer_of(hard), buffer_of(soft))
         same(f"ways out of {setup}", found, ways_out)
-        same(f"Unmet of {setup}", number == UNMET, models(count, hard) == [])
+        same(f"Unmet of {setup}", number == UNMET, not has_model(count, hard))
         same(f"ways out turned of {setup}", listed(turn, len(soft), ways_out), (DONE, clashes))
         same(f"clashes turned of {setup}", listed(turn, len(soft), clashes), (DONE, ways_out))
         test_marks(len(soft), ways_out, clashes)
@@ -184,7 +184,7 @@ def test_asks(random: Random) -> None:
 def test_ask(count: int, clauses: bytes, assumed: bytes, every: list[bytes], other: bytes) -> None:
     """One ask with all its clauses in a list, and again as a buffer in another order."""
     what, places = f"ask {count} {every}", b"?" * (count + 1)
-    found = models(count, every)
+    found = list(models(count, every))
     visits = count_of_visits(count, every, found, {})
     wanted = ((DONE, visits, bytes(found[0]) + b"?") if found else (NONE, visits, places))
     same(what, ask(count, clauses, assumed, NO_END_OF_BUDGET, places), wanted)
