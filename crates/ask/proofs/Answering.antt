@@ -22,10 +22,10 @@ use Rattle.setups.specs.Ask.{AskResult, askClauses, askRefusal, found, askResul
 use Rattle.setups.proofs.LiteralLaws.{clause-bytes, assumed-bytes}
 use Rattle.setups.proofs.Models.{search-means}
 use Rattle.setups.proofs.Refusals.{refused-number}
+use Rattle.scans.specs.Scans.{ReadableAll}
 use Rattle.search.specs.declared.Outcome.{Outcome}
 use Rattle.search.specs.declared.Outcome.the-variants as outcome
 use Rattle.search.specs.declared.Answer.{Answer}
-use Rattle.search.specs.Scans.{ReadableAll}
 use Rattle.search.specs.Told.{told}
 use Rattle.ask.specs.declared.Asked.the-variants as asked
 use Rattle.ask.specs.Asking.{answered}

@@ -4,11 +4,11 @@ mod checks;
 
 use checks::Checked;
 use checks::first_refusal;
+use literals::Values;
+use literals::opening;
 use search::Outcome;
 use search::visit;
 use setups::Refusal;
-use setups::Values;
-use setups::opening;
 ghost use mathlib.Core.Path.{_≡_};
 ghost use mathlib.Core.List.{_++_};
 ghost use Prim.Native.Nat.{_≤_};

@@ -6,7 +6,7 @@ use crate::fields::EMPTY_RUN;
 use crate::fields::NUMBER_DIGITS;
 use crate::fields::SET_DIGITS;
 use crate::fields::SPACE;
-use frames::digit_of;
+use digits::digit_of;
 use libc::STDOUT_FILENO;
 use sets::Set;
 use setups::Refusal;
@@ -17,9 +17,6 @@ ghost use Prim.Native.Nat.{_≤_};
 const OUTPUT_MOST: usize = 0x1_0000;
 
 pub type Output = [u8; OUTPUT_MOST];
-
-// The answer to a line that is no call.
-const NO_CALL: u8 = b'?';
 
 // How many bits of a value a digit stands for.
 const DIGIT_BITS: usize = 4;
@@ -62,10 +59,6 @@ pub fn write_out(out: &Output, at: usize) {
     }
 }
 
-pub fn put_no_call(out: &mut Output, at: usize) -> usize {
-    put(out, at, NO_CALL)
-}
-
 // Puts the last digits of a value, so many of its sixteen, the high one first.
 fn put_digits(out: &mut Output, at: usize, value: u64, digits: usize) -> usize
     requires { ⌜ digits ≤ 16 ⌝ }
@@ -87,31 +80,51 @@ pub fn put_number(out: &mut Output, at: usize, number: u64) -> usize {
     put_digits(out, next, number, NUMBER_DIGITS)
 }
 
-pub fn put_bytes(out: &mut Output, at: usize, bytes: &[u8]) -> usize {
-    let mut next = put(out, at, SPACE);
-    if bytes.len() == 0 {
+// Puts what a run of so many values begins with: a space, and what stands for an empty run.
+fn begin_run(out: &mut Output, at: usize, count: usize) -> usize {
+    let next = put(out, at, SPACE);
+    if count == 0 {
         return put(out, next, EMPTY_RUN);
     }
+    next
+}
+
+pub fn put_bytes(out: &mut Output, at: usize, bytes: &[u8]) -> usize {
+    let mut next = begin_run(out, at, bytes.len());
     for i in 0..bytes.len() {
         next = put_digits(out, next, bytes[i] as u64, BYTE_DIGITS);
     }
     next
 }
 
-pub fn put_sets(out: &mut Output, at: usize, sets: &[Set]) -> usize {
-    let mut next = put(out, at, SPACE);
-    if sets.len() == 0 {
-        return put(out, next, EMPTY_RUN);
-    }
+fn put_sets(out: &mut Output, at: usize, sets: &[Set]) -> usize {
+    let mut next = begin_run(out, at, sets.len());
     for i in 0..sets.len() {
         next = put_digits(out, next, sets[i] as u64, SET_DIGITS);
     }
     next
 }
 
-// Puts the letter and the outcome.
-pub fn put_outcome(out: &mut Output, at: usize, letter: u8, outcome: Outcome) -> usize {
-    let after_letter = put(out, at, letter);
-    let after_number = put_number(out, after_letter, outcome.number as u64);
-    put_number(out, after_number, outcome.count)
+fn put_outcome(out: &mut Output, at: usize, outcome: Outcome) -> usize {
+    let next = put_number(out, at, outcome.number as u64);
+    put_number(out, next, outcome.count)
+}
+
+// Puts the outcome and the bytes of a job that fills bytes.
+pub fn put_filled_bytes(out: &mut Output, at: usize, outcome: Outcome, bytes: &[u8]) -> usize {
+    let next = put_outcome(out, at, outcome);
+    put_bytes(out, next, bytes)
+}
+
+// Puts the outcome, the list and the scratch of a job that lists.
+pub fn put_listed(
+    out: &mut Output,
+    at: usize,
+    outcome: Outcome,
+    list: &[Set],
+    scratch: &[Set],
+) -> usize {
+    let after_outcome = put_outcome(out, at, outcome);
+    let after_list = put_sets(out, after_outcome, list);
+    put_sets(out, after_list, scratch)
 }

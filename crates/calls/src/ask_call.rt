@@ -3,16 +3,19 @@ use crate::answers;
 use crate::answers::Outcome;
 use crate::answers::Output;
 use crate::fields;
-use crate::places;
+use crate::places::BYTES_MOST;
+use crate::places::OLD_BYTE;
 use ask::Asked;
 
-fn is_call(line: &[u8]) -> bool {
-    fields::is_number(line, 1)
-        && fields::is_bytes(line, 2)
-        && fields::is_bytes(line, 3)
-        && fields::is_number(line, 4)
-        && fields::is_byte_room(line, 5)
-        && fields::is_last(line, 5)
+// Calls Ask on the fields, with what is lent to it.
+fn asked(line: &[u8], model: &mut [u8]) -> Asked {
+    let mut clause_places = [OLD_BYTE; BYTES_MOST];
+    let mut assumed_places = [OLD_BYTE; BYTES_MOST];
+    let count = fields::number_of(line, 1);
+    let clauses = fields::bytes_of(line, 2, &mut clause_places);
+    let assumed = fields::bytes_of(line, 3, &mut assumed_places);
+    let budget = fields::number_of(line, 4);
+    ask::ask(count, clauses, assumed, budget, model)
 }
 
 fn outcome_of(asked: Asked) -> Outcome {
@@ -24,18 +27,8 @@ fn outcome_of(asked: Asked) -> Outcome {
 }
 
 pub fn answer(line: &[u8], out: &mut Output, at: usize) -> usize {
-    if !is_call(line) {
-        return answers::put_no_call(out, at);
-    }
-    let mut clause_places = places::fresh_bytes();
-    let mut assumed_places = places::fresh_bytes();
-    let mut model_places = places::fresh_bytes();
-    let count = fields::number_of(line, 1);
-    let clauses = fields::bytes_of(line, 2, &mut clause_places);
-    let assumed = fields::bytes_of(line, 3, &mut assumed_places);
-    let budget = fields::number_of(line, 4);
-    let model = fields::byte_room(line, 5, &mut model_places);
-    let asked = ask::ask(count, clauses, assumed, budget, model);
-    let next = answers::put_outcome(out, at, b'A', outcome_of(asked));
-    answers::put_bytes(out, next, model)
+    let mut places = [OLD_BYTE; BYTES_MOST];
+    let model = fields::byte_room(line, 5, &mut places);
+    let asked = asked(line, model);
+    answers::put_filled_bytes(out, at, outcome_of(asked), model)
 }

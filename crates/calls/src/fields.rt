@@ -3,10 +3,11 @@
 use crate::places::BYTES_MOST;
 use crate::places::SETS_MOST;
 use bytes::scan::find;
-use frames::digit_value;
-use frames::is_digit;
+use digits::digit_value;
+use digits::is_digit;
 use sets::Set;
-ghost use Prim.Native.Nat.{_<_, _≤_};
+ghost use Prim.Native.Nat.{_+_, _<_, _≤_};
+ghost use lib.ListN.{length};
 
 // How many digits a number, a byte and a set have.
 pub const NUMBER_DIGITS: usize = 8;
@@ -21,10 +22,8 @@ pub const SPACE: u8 = b' ';
 // What stands for an empty run.
 pub const EMPTY_RUN: u8 = b'-';
 
-const NO_LETTER: u8 = 0;
-
 // How many values a digit, a byte and a number have, and fifteen digits, after which one more fits 64 bits.
-pub const DIGITS: u64 = frames::DIGITS as u64;
+pub const DIGITS: u64 = digits::DIGITS as u64;
 
 const BYTES: u64 = 0x100;
 
@@ -53,26 +52,16 @@ fn from_field(line: &[u8], index: usize) -> &[u8] {
 }
 
 // A field; empty, which no test takes, where the line has none.
-fn field(line: &[u8], index: usize) -> &[u8] {
+pub fn field(line: &[u8], index: usize) -> &[u8] {
     let rest = from_field(line, index);
     let end = find(rest, 0, rest.len(), SPACE);
     &rest[0..end]
 }
 
 // No field and no space follows the field.
-pub fn is_last(line: &[u8], index: usize) -> bool {
+fn is_last(line: &[u8], index: usize) -> bool {
     let rest = from_field(line, index);
     find(rest, 0, rest.len(), SPACE) == rest.len()
-}
-
-// The letter of a line; NO_LETTER where the first field isn't one byte.
-pub fn letter(line: &[u8]) -> u8 {
-    let first = field(line, 0);
-    if first.len() == 1 {
-        first[0]
-    } else {
-        NO_LETTER
-    }
 }
 
 fn all_digits(text: &[u8]) -> bool {
@@ -84,35 +73,32 @@ fn all_digits(text: &[u8]) -> bool {
     true
 }
 
-// What the last sixteen digits stand for, the high one first.
-fn value(digits: &[u8]) -> u64 {
+// What so many digits from a place on stand for, the high one first; the last sixteen where they are more.
+fn value(text: &[u8], at: usize, digits: usize) -> u64
+    requires { ⌜ at + digits ≤ length (now text) ⌝ }
+{
     let mut value = 0;
-    for i in 0..digits.len() {
-        value = value % FIFTEEN_DIGITS * DIGITS + digit_value(digits[i]) as u64 % DIGITS;
+    for i in at..at + digits {
+        value = value % FIFTEEN_DIGITS * DIGITS + digit_value(text[i]) as u64 % DIGITS;
     }
     value
 }
 
-pub fn is_number(line: &[u8], index: usize) -> bool {
-    let field = field(line, index);
-    field.len() == NUMBER_DIGITS && all_digits(field)
+fn number(field: &[u8]) -> u32 {
+    (value(field, 0, field.len()) % NUMBERS) as u32
 }
 
 pub fn number_of(line: &[u8], index: usize) -> u32 {
-    (value(field(line, index)) % NUMBERS) as u32
+    number(field(line, index))
+}
+
+fn is_number(field: &[u8]) -> bool {
+    field.len() == NUMBER_DIGITS && all_digits(field)
 }
 
 // The field is a number, so much at the most.
-fn is_room(line: &[u8], index: usize, most: usize) -> bool {
-    is_number(line, index) && number_of(line, index) as usize <= most
-}
-
-pub fn is_byte_room(line: &[u8], index: usize) -> bool {
-    is_room(line, index, BYTES_MOST)
-}
-
-pub fn is_set_room(line: &[u8], index: usize) -> bool {
-    is_room(line, index, SETS_MOST)
+fn is_room(field: &[u8], most: usize) -> bool {
+    is_number(field) && number(field) as usize <= most
 }
 
 // The field is a run of values of so many digits each, so many at the most.
@@ -128,12 +114,25 @@ fn is_run(field: &[u8], digits: usize, most: usize) -> bool
         && all_digits(field)
 }
 
-pub fn is_bytes(line: &[u8], index: usize) -> bool {
-    is_run(field(line, index), BYTE_DIGITS, BYTES_MOST)
+// The field is of a kind: `n` is a number, `b` a run of bytes, `s` a run of sets, `B` a room for bytes, `S` a room for sets.
+fn is_kind(field: &[u8], kind: u8) -> bool {
+    match kind {
+        b'n' => is_number(field),
+        b'b' => is_run(field, BYTE_DIGITS, BYTES_MOST),
+        b's' => is_run(field, SET_DIGITS, SETS_MOST),
+        b'B' => is_room(field, BYTES_MOST),
+        _ => is_room(field, SETS_MOST),
+    }
 }
 
-pub fn is_sets(line: &[u8], index: usize) -> bool {
-    is_run(field(line, index), SET_DIGITS, SETS_MOST)
+// The fields after the letter are of these kinds, and no more follow.
+pub fn are_kinds(line: &[u8], kinds: &[u8]) -> bool {
+    for i in 0..kinds.len() {
+        if !is_kind(field(line, i + 1), kinds[i]) {
+            return false;
+        }
+    }
+    is_last(line, kinds.len())
 }
 
 // The tests let no count through that is above the places; with the lesser of the two the readers rely on no test.
@@ -155,23 +154,23 @@ pub fn set_room<'a>(line: &[u8], index: usize, places: &'a mut [Set]) -> &'a mut
 }
 
 // Puts the bytes of a run into places, and gives those that they fill.
-pub fn bytes_of<'a>(line: &[u8], index: usize, places: &'a mut [u8]) -> &'a mut [u8] {
+pub fn bytes_of<'a>(line: &[u8], index: usize, places: &'a mut [u8]) -> &'a [u8] {
     let run = field(line, index);
     let count = least(run.len() / BYTE_DIGITS, places.len());
     for i in 0..count {
-        let at = BYTE_DIGITS * i;
-        places[i] = (value(&run[at..at + BYTE_DIGITS]) % BYTES) as u8;
+        places[i] = (value(run, BYTE_DIGITS * i, BYTE_DIGITS) % BYTES) as u8;
     }
-    &mut places[0..count]
+    let filled = &places[..];
+    &filled[..count]
 }
 
 // Puts the sets of a run into places, and gives those that they fill.
-pub fn sets_of<'a>(line: &[u8], index: usize, places: &'a mut [Set]) -> &'a mut [Set] {
+pub fn sets_of<'a>(line: &[u8], index: usize, places: &'a mut [Set]) -> &'a [Set] {
     let run = field(line, index);
     let count = least(run.len() / SET_DIGITS, places.len());
     for i in 0..count {
-        let at = SET_DIGITS * i;
-        places[i] = (value(&run[at..at + SET_DIGITS]) % NUMBERS) as Set;
+        places[i] = (value(run, SET_DIGITS * i, SET_DIGITS) % NUMBERS) as Set;
     }
-    &mut places[0..count]
+    let filled = &places[..];
+    &filled[..count]
 }

@@ -12,7 +12,6 @@ mod write_call;
 
 use answers::Output;
 use answers::put;
-use answers::put_no_call;
 use answers::write_out;
 use bytes::scan::find;
 use frames::LINE_FEED;
@@ -23,17 +22,44 @@ const INPUT_MOST: usize = 0x20_0000;
 
 type Input = [u8; INPUT_MOST];
 
-// Puts the line that answers a line.
+// The answer to a line that is no call.
+const NO_CALL: u8 = b'?';
+
+// The fields are those of a call of the letter, each of its kind.
+fn is_call(line: &[u8], letter: u8) -> bool {
+    match letter {
+        b'A' => fields::are_kinds(line, b"nbbnB"),
+        b'L' => fields::are_kinds(line, b"nbbSS"),
+        b'T' => fields::are_kinds(line, b"nsSS"),
+        b'M' => fields::are_kinds(line, b"nsB"),
+        b'R' => fields::are_kinds(line, b"bBB"),
+        b'W' => fields::are_kinds(line, b"nbbB"),
+        _ => false,
+    }
+}
+
+// The letter of a call; NO_CALL where the line is none.
+fn letter(line: &[u8]) -> u8 {
+    let first = fields::field(line, 0);
+    if first.len() == 1 && is_call(line, first[0]) {
+        first[0]
+    } else {
+        NO_CALL
+    }
+}
+
+// Puts the line that answers a line: the letter, and what its job answers.
 fn answer(line: &[u8], out: &mut Output, at: usize) -> usize {
-    let letter = fields::letter(line);
+    let letter = letter(line);
+    let next = put(out, at, letter);
     let end = match letter {
-        b'A' => ask_call::answer(line, out, at),
-        b'L' => list_call::answer(line, out, at),
-        b'T' => turn_call::answer(line, out, at),
-        b'M' => mark_call::answer(line, out, at),
-        b'R' => read_call::answer(line, out, at),
-        b'W' => write_call::answer(line, out, at),
-        _ => put_no_call(out, at),
+        b'A' => ask_call::answer(line, out, next),
+        b'L' => list_call::answer(line, out, next),
+        b'T' => turn_call::answer(line, out, next),
+        b'M' => mark_call::answer(line, out, next),
+        b'R' => read_call::answer(line, out, next),
+        b'W' => write_call::answer(line, out, next),
+        _ => next,
     };
     put(out, end, LINE_FEED)
 }
@@ -50,7 +76,7 @@ fn answer_all(input: &[u8]) {
         end = find(input, start, input.len(), LINE_FEED);
     }
     if start < input.len() {
-        at = put_no_call(&mut out, at);
+        at = put(&mut out, at, NO_CALL);
         at = put(&mut out, at, LINE_FEED);
     }
     write_out(&out, at);

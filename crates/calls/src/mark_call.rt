@@ -3,14 +3,18 @@ use crate::answers;
 use crate::answers::Outcome;
 use crate::answers::Output;
 use crate::fields;
-use crate::places;
+use crate::places::BYTES_MOST;
+use crate::places::OLD_BYTE;
+use crate::places::OLD_SET;
+use crate::places::SETS_MOST;
 use mark::Marking;
 
-fn is_call(line: &[u8]) -> bool {
-    fields::is_number(line, 1)
-        && fields::is_sets(line, 2)
-        && fields::is_byte_room(line, 3)
-        && fields::is_last(line, 3)
+// Calls Mark on the fields, with what is lent to it.
+fn marking(line: &[u8], marks: &mut [u8]) -> Marking {
+    let mut places = [OLD_SET; SETS_MOST];
+    let settings = fields::number_of(line, 1);
+    let given = fields::sets_of(line, 2, &mut places);
+    mark::mark(settings, given, marks)
 }
 
 fn outcome_of(marking: Marking) -> Outcome {
@@ -21,15 +25,8 @@ fn outcome_of(marking: Marking) -> Outcome {
 }
 
 pub fn answer(line: &[u8], out: &mut Output, at: usize) -> usize {
-    if !is_call(line) {
-        return answers::put_no_call(out, at);
-    }
-    let mut given_places = places::fresh_sets();
-    let mut mark_places = places::fresh_bytes();
-    let settings = fields::number_of(line, 1);
-    let given = fields::sets_of(line, 2, &mut given_places);
-    let marks = fields::byte_room(line, 3, &mut mark_places);
-    let marking = mark::mark(settings, given, marks);
-    let next = answers::put_outcome(out, at, b'M', outcome_of(marking));
-    answers::put_bytes(out, next, marks)
+    let mut places = [OLD_BYTE; BYTES_MOST];
+    let marks = fields::byte_room(line, 3, &mut places);
+    let marking = marking(line, marks);
+    answers::put_filled_bytes(out, at, outcome_of(marking), marks)
 }

@@ -1,51 +1,61 @@
 // A call of Read, `R text hardroom softroom`, and its answer, `R number count hardfilled softfilled hard soft`.
 use crate::answers;
-use crate::answers::Outcome;
 use crate::answers::Output;
 use crate::fields;
-use crate::places;
-use frames::Reading;
+use crate::places::BYTES_MOST;
+use crate::places::OLD_BYTE;
+use read::Reading;
 
-fn is_call(line: &[u8]) -> bool {
-    fields::is_bytes(line, 1)
-        && fields::is_byte_room(line, 2)
-        && fields::is_byte_room(line, 3)
-        && fields::is_last(line, 3)
+// Calls Read on the fields, with what is lent to it.
+fn reading(line: &[u8], hard: &mut [u8], soft: &mut [u8]) -> Reading {
+    let mut places = [OLD_BYTE; BYTES_MOST];
+    let text = fields::bytes_of(line, 1, &mut places);
+    read::read(text, hard, soft)
 }
 
-// Puts the outcome, whose count is the variables', and how many places of each buffer were filled.
-fn put_counts(out: &mut Output, at: usize, outcome: Outcome, hard: u64, soft: u64) -> usize {
-    let after_count = answers::put_outcome(out, at, b'R', outcome);
-    let after_hard = answers::put_number(out, after_count, hard);
-    answers::put_number(out, after_hard, soft)
+// What an answer begins with after its letter: the number, the variables' count, and how many places of each buffer were filled.
+struct Counts {
+    number: u8,
+    count: u32,
+    hard: usize,
+    soft: usize,
 }
 
-fn put_reading(out: &mut Output, at: usize, reading: Reading) -> usize {
+fn counts_of(reading: Reading) -> Counts {
     match reading {
         Reading::Read {
             count,
             hard_filled,
             soft_filled,
-        } => {
-            let outcome = Outcome::new(setups::FINISHED, count as u64);
-            put_counts(out, at, outcome, hard_filled as u64, soft_filled as u64)
-        }
-        Reading::Refused(refusal) => put_counts(out, at, Outcome::refused(refusal), 0, 0),
+        } => Counts {
+            number: setups::FINISHED,
+            count,
+            hard: hard_filled,
+            soft: soft_filled,
+        },
+        Reading::Refused(refusal) => Counts {
+            number: setups::refusal_number(refusal),
+            count: 0,
+            hard: 0,
+            soft: 0,
+        },
     }
 }
 
+fn put_counts(out: &mut Output, at: usize, counts: Counts) -> usize {
+    let after_number = answers::put_number(out, at, counts.number as u64);
+    let after_count = answers::put_number(out, after_number, counts.count as u64);
+    let after_hard = answers::put_number(out, after_count, counts.hard as u64);
+    answers::put_number(out, after_hard, counts.soft as u64)
+}
+
 pub fn answer(line: &[u8], out: &mut Output, at: usize) -> usize {
-    if !is_call(line) {
-        return answers::put_no_call(out, at);
-    }
-    let mut text_places = places::fresh_bytes();
-    let mut hard_places = places::fresh_bytes();
-    let mut soft_places = places::fresh_bytes();
-    let text = fields::bytes_of(line, 1, &mut text_places);
+    let mut hard_places = [OLD_BYTE; BYTES_MOST];
+    let mut soft_places = [OLD_BYTE; BYTES_MOST];
     let hard = fields::byte_room(line, 2, &mut hard_places);
     let soft = fields::byte_room(line, 3, &mut soft_places);
-    let reading = frames::read(text, hard, soft);
-    let next = put_reading(out, at, reading);
-    let after_hard = answers::put_bytes(out, next, hard);
+    let reading = reading(line, hard, soft);
+    let after_counts = put_counts(out, at, counts_of(reading));
+    let after_hard = answers::put_bytes(out, after_counts, hard);
     answers::put_bytes(out, after_hard, soft)
 }

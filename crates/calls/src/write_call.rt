@@ -3,15 +3,18 @@ use crate::answers;
 use crate::answers::Outcome;
 use crate::answers::Output;
 use crate::fields;
-use crate::places;
-use frames::Writing;
+use crate::places::BYTES_MOST;
+use crate::places::OLD_BYTE;
+use write::Writing;
 
-fn is_call(line: &[u8]) -> bool {
-    fields::is_number(line, 1)
-        && fields::is_bytes(line, 2)
-        && fields::is_bytes(line, 3)
-        && fields::is_byte_room(line, 4)
-        && fields::is_last(line, 4)
+// Calls Write on the fields, with what is lent to it.
+fn writing(line: &[u8], text: &mut [u8]) -> Writing {
+    let mut hard_places = [OLD_BYTE; BYTES_MOST];
+    let mut soft_places = [OLD_BYTE; BYTES_MOST];
+    let count = fields::number_of(line, 1);
+    let hard = fields::bytes_of(line, 2, &mut hard_places);
+    let soft = fields::bytes_of(line, 3, &mut soft_places);
+    write::write(count, hard, soft, text)
 }
 
 fn outcome_of(writing: Writing) -> Outcome {
@@ -22,17 +25,8 @@ fn outcome_of(writing: Writing) -> Outcome {
 }
 
 pub fn answer(line: &[u8], out: &mut Output, at: usize) -> usize {
-    if !is_call(line) {
-        return answers::put_no_call(out, at);
-    }
-    let mut hard_places = places::fresh_bytes();
-    let mut soft_places = places::fresh_bytes();
-    let mut text_places = places::fresh_bytes();
-    let count = fields::number_of(line, 1);
-    let hard = fields::bytes_of(line, 2, &mut hard_places);
-    let soft = fields::bytes_of(line, 3, &mut soft_places);
-    let text = fields::byte_room(line, 4, &mut text_places);
-    let writing = frames::write(count, hard, soft, text);
-    let next = answers::put_outcome(out, at, b'W', outcome_of(writing));
-    answers::put_bytes(out, next, text)
+    let mut places = [OLD_BYTE; BYTES_MOST];
+    let text = fields::byte_room(line, 4, &mut places);
+    let writing = writing(line, text);
+    answers::put_filled_bytes(out, at, outcome_of(writing), text)
 }

@@ -1,7 +1,7 @@
 -- Lines: where the pairs of digits end that a text begins with, and which frame its first line is.
 use mathlib.Core.Path.{_≡_, refl, sym, ap, _∙_}
 use mathlib.Core.Logic.{by-cases}
-use mathlib.Core.Bool.{Bool, true, false, cond, false≢true, _&&_}
+use mathlib.Core.Bool.{Bool, true, false, cond, true≢false, false≢true, _&&_}
 use mathlib.Core.List.{List, [], _∷_}
 use mathlib.Core.Option.{none, some, Option·map}
 use Prim.Native.Nat.{ℕ, zero, suc, _+_, _-_, _*_, _/_, _≤_, _<_}
@@ -15,12 +15,12 @@ use lib.ListN.{length, getD, drop, length-drop, List·getD-eq-default}
 use lib.Seq.{drop-cons, drop-drop, getD-drop}
 use Rattle.sets.specs.Tests.{all}
 use Rattle.sets.proofs.Deciding.{bool-case, cond-case}
+use Rattle.digits.specs.Digits.{isDigit, byteOf}
+use Rattle.digits.proofs.Hexadecimal.{below}
 use Rattle.frames.specs.declared.frames.Found.{Found}
 use Rattle.frames.specs.declared.frames.Found.the-variants.{Header, End, NoFrame}
-use Rattle.frames.specs.Digits.{isDigit, byteOf}
 use Rattle.frames.specs.Frames.{lineFeed, ahead, lines, lineBytes, headerKind, hardKind, softKind, endKind, frameMost, Frame, noFrame, headerOf, clauseOf, endOf, framed, frameOf}
 use Rattle.frames.specs.Found.{pairs, bytesFrom, found, foundAt}
-use Rattle.frames.proofs.Hexadecimal.{digit-no-feed}
 
 -- ---- pairs of digits
 
@@ -131,6 +131,10 @@ no-bytes c d t e =
     bool-case (λ (q : Bool). lineBytes (first (c ∷ d ∷ t)) ≡ cond q (some []) none) (eqb c lineFeed)
     (λ q. rw (first-feed c (d ∷ t) q, q))
     (λ q. rw (first-more c (d ∷ t) q, f .1, e))
+
+-- a digit is no LF
+digit-no-feed : (c : ℕ) → isDigit c ≡ true → eqb c lineFeed ≡ false
+digit-no-feed c e = ne-eqb c 10 (λ q. true≢false (sym e ∙ rw (q, below 48 57 10 (omega arith), below 65 70 10 (omega arith))))
 
 -- a pair at the front: its byte comes before those of the rest
 more-bytes : (c d : ℕ) (t : List ℕ) → (isDigit c && isDigit d) ≡ true → lineBytes (first (c ∷ d ∷ t)) ≡ Option·map (λ (bytes : List ℕ). byteOf c d ∷ bytes) (lineBytes (first t))

@@ -4,13 +4,10 @@ use mathlib.Core.Bool.{cond, _&&_}
 use mathlib.Core.List.{List, [], _∷_}
 use Prim.Native.Nat.{ℕ, zero, suc, _+_, _*_}
 use lib.ListN.{length, getD, drop}
+use Rattle.digits.specs.Digits.{between, isDigit, byteOf}
 use Rattle.frames.specs.declared.frames.Found.{Found}
 use Rattle.frames.specs.declared.frames.Found.the-variants.{Header, Hard, Soft, End, NoFrame}
-use Rattle.frames.specs.declared.reading.Checked.{Checked}
-use Rattle.frames.specs.declared.reading.Checked.the-variants.{Good, Bad}
-use Rattle.frames.specs.Digits.{between, isDigit, byteOf}
 use Rattle.frames.specs.Frames.{lines, Frame, header, hard, soft, end, noFrame, frame, frameBytes}
-use Rattle.frames.specs.Texts.{Text, good, bad}
 
 -- how many pairs of digits the text begins with
 abbrev pub pairs : List ℕ → ℕ
@@ -43,8 +40,3 @@ found at noFrame = NoFrame
 -- the frame of the line that begins at `at`
 unfoldable pub foundAt : List ℕ → ℕ → Found
 foundAt text at = found at (frame (getD (lines (drop at text)) 0 []))
-
--- what a text says, in numbers: the variable count and how many bytes each buffer has to hold, or the first bad line
-abbrev pub checked : Text → Checked
-checked (good count h s) = Good count (length h) (length s)
-checked (bad n) = Bad n

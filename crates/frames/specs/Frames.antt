@@ -7,7 +7,7 @@ use Prim.Native.Nat.{ℕ}
 use lib.Dec.{eqb, ltb, leb}
 use lib.ListN.{length}
 use Rattle.sets.specs.Tests.{all}
-use Rattle.frames.specs.Digits.{between, isDigit, digitOf, byteOf, digits}
+use Rattle.digits.specs.Digits.{between, isDigit, digitOf, byteOf, digits}
 
 -- LF
 abbrev pub lineFeed : ℕ

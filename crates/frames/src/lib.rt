@@ -1,18 +1,12 @@
-// Read and Write: a setup as lines of hexadecimal.
-mod digits;
+// One frame of a text, a line of hexadecimal: what it is, and the reader that finds it.
 mod frames;
 mod reader;
-mod reading;
-mod writing;
 
-pub use digits::DIGITS;
-pub use digits::digit_of;
-pub use digits::digit_value;
-pub use digits::is_digit;
-pub use digits::put_byte;
-pub use digits::put_set;
+pub use frames::END;
+pub use frames::Found;
+pub use frames::HARD;
+pub use frames::HEADER;
+pub use frames::HEADER_LINE;
 pub use frames::LINE_FEED;
-pub use reading::Reading;
-pub use reading::read;
-pub use writing::Writing;
-pub use writing::write;
+pub use frames::SOFT;
+pub use reader::frame_at;

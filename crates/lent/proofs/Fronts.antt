@@ -1,7 +1,7 @@
 -- A list taken apart from its front: what the check of a list asks is what it asks of the first set and of the rest.
 use mathlib.Core.Path.{_≡_, refl, sym, _∙_}
 use mathlib.Core.Logic.{inl, inr, ⊎-elim, _↔_}
-use mathlib.Core.Bool.{Bool, true, false, true≢false, false≢true}
+use mathlib.Core.Bool.{true, false, false≢true}
 use mathlib.Core.List.{List, [], _∷_}
 use Prim.Native.Nat.{ℕ, _+_, _-_, _^_, _≤_, _<_, min}
 use native.Mathlib.Nat.{lt-of-lt-of-le, le-of-eq}
@@ -32,10 +32,6 @@ answers-true a = ((λ e. a), λ h. refl)
 -- and false where it doesn't
 pub answers-false : {A : Type 0} → ¬ A → (false ≡ true) ↔ A
 answers-false q = ((λ e. absurd (false≢true e)), λ h. absurd (q h))
-
--- where a test answers false, its fact fails
-pub refuted : {A : Type 0} {answer : Bool} → ((answer ≡ true) ↔ A) → answer ≡ false → ¬ A
-refuted says fails a = true≢false (sym (says .1 a) ∙ fails)
 
 -- what is asked of a list from some place on is asked of the set there, twice, and from the next place on: where the set passes, what
 -- is asked of the whole list is asked from the next place on

@@ -3,64 +3,29 @@ use mathlib.Core.Path.{_≡_, refl}
 use mathlib.Core.Bool.{true, false}
 use mathlib.Core.List.{List, [], _++_}
 use Prim.Native.Nat.{ℕ, _+_, _^_, _≤_, _<_}
-use native.Mathlib.Nat.{not-suc-le-zero}
 use native.Mathlib.Omega.{arith}
 use lib.ListN.{length, take, drop}
 use borrow.Author.Tests.{lt-ltb, le-ltb}
-use Rattle.sets.specs.Lists.{Exactly}
-use Rattle.sets.proofs.Digits.{none-in}
-use Rattle.sets.proofs.Lists.{exactly-iff}
 use Rattle.setups.specs.declared.Refusal.the-variants.{TooMany}
-use Rattle.setups.specs.Setups.{Setup, count, Together, WayOut}
+use Rattle.setups.specs.Setups.{Setup, count, Together}
 use Rattle.setups.specs.List.{zeroed, givenOut}
 use Rattle.setups.proofs.Duality.{unmet-no-way-out}
+use Rattle.walk.specs.Walking.{Between, over, Walked}
+use Rattle.walk.proofs.Overwriting.{over-take}
+use Rattle.walk.proofs.Root.{below-all, root-unmet}
 use Rattle.list.specs.declared.Listing.the-variants.{Listed, Unmet, Refused}
-use Rattle.list.specs.declared.walk.Node.{Node}
-use Rattle.list.specs.Walking.{Below, Between, Reached, Stands, over, Walked}
 use Rattle.list.specs.Answer.{answered, GivesOut}
-use Rattle.list.proofs.Nodes.{root-decided}
-use Rattle.list.proofs.Branches.{some-way-out}
-use Rattle.list.proofs.Overwriting.{over-take}
 
--- below 0 there is no set
-below-none : (g : Setup) → Below g 0 []
-below-none g = record { rising = tt; exact = λ S. ((λ h. absurd h), λ h. absurd (not-suc-le-zero (h .1))) }
-
--- below 2 ^ count all ways out are
-below-all : (g : Setup) (list : List ℕ) → Below g (2 ^ count g) list → Exactly (WayOut g) list
-below-all g list = exactly-iff (λ S. WayOut g S × (S < 2 ^ count g)) (WayOut g) (λ S. ((λ h. h .0), λ w. (w, w .below))) list
-
-module _ (g : Setup) (settings : ℕ) (e : settings ≡ count g) where
-  pub root-reached : Reached g (record { left = settings; given = 0; kept = 0; witness = 0 }) []
-  root-reached = record { decided = rw e (root-decided (count g)); before = below-none g }
-
-  -- an empty branch at the root: the hard clauses have no model, since every model of theirs leaves a way out
-  root-unmet : ¬ Between g 0 (0 + 2 ^ settings) → ¬ Together g 0
-  root-unmet dead t =
-      dead
-      (some-way-out g settings 0 0 [] (root-reached .decided) (root-reached .before) (t .0) (record { models = t .1; each = λ W h. absurd h }))
-
-  pub root-dead : (list found : List ℕ) → ¬ Between g 0 (0 + 2 ^ settings) → GivesOut g list found Unmet list found
-  root-dead list found dead = record {
-    ways = [];
-    exact = record { rising = tt; exact = λ S. ((λ h. absurd h), λ w. absurd (unmet-no-way-out g (root-unmet dead) S w)) };
-    met = false;
-    meets = ((λ t. absurd t), λ t. absurd (root-unmet dead t));
-    places = refl;
-    says = λ scratch. refl;
-  }
-
-  -- a live root: the walk goes through all ways out
-  pub root-walked : (live : Node) → live .left ≡ settings → live .given ≡ 0 → (found places : List ℕ) (filled : ℕ)
-      → Walked g (live .given + 2 ^ live .left) found places filled → Walked g (2 ^ count g) found places filled
-  root-walked live left given found places filled w =
-      let top : live .given + 2 ^ live .left ≡ 2 ^ count g = rw (given, left, e) (omega arith) in
-      rw (← top) w
-
--- and the hard clauses have a model
-pub root-met : {g : Setup} {live : Node} → Stands g live [] → Together g 0
-root-met s =
-    (s .model, record { assigns = s .meets .models .assigns; hard = s .meets .models .hard; kept = λ i l k. absurd (none-in i k) })
+-- an empty branch at the root: Unmet, and no place is written
+pub root-dead : (g : Setup) (settings : ℕ) (e : settings ≡ count g) (list found : List ℕ) → ¬ Between g 0 (0 + 2 ^ settings) → GivesOut g list found Unmet list found
+root-dead g settings e list found dead = record {
+  ways = [];
+  exact = record { rising = tt; exact = λ S. ((λ h. absurd h), λ w. absurd (unmet-no-way-out g (root-unmet g settings e dead) S w)) };
+  met = false;
+  meets = ((λ t. absurd t), λ t. absurd (root-unmet g settings e dead t));
+  places = refl;
+  says = λ scratch. refl;
+}
 
 -- the sets that were found in the first places, copied to the list
 says-listed : (ways found places list after : List ℕ) (filled : ℕ) → filled ≡ length ways → length ways ≤ length found → places ≡ over ways found

@@ -13,7 +13,7 @@ use Rattle.setups.specs.declared.judging.Judged.{Judged}
 use Rattle.setups.specs.declared.judging.Judged.the-variants.{Taken as Passed, Unfit}
 use Rattle.setups.specs.List.{ListResult, without-list, zeroed, givenOut}
 use Rattle.setups.specs.declared.Refusal.the-variants.{TooMany}
-use Rattle.list.specs.Walking.{over}
+use Rattle.walk.specs.Walking.{over}
 use Rattle.list.specs.declared.Listing.{Listing}
 use Rattle.list.specs.declared.Listing.the-variants.{Listed, Unmet, Refused}
 

@@ -1,4 +1,3 @@
--- What the walk and the job promise.
-pub mod Walking
+-- What the job promises, and what that says.
 pub mod Answer
 pub mod Meaning

@@ -1,6 +1,5 @@
-// List: all ways out of a setup, by a walk over its settings. specs/ has what each function promises, proofs/ the laws of the walk.
+// List: all ways out of a setup, by the walk over its settings. specs/ has what each function promises, proofs/ the way from the walk to the answer.
 mod checks;
-mod walk;
 
 use checks::first_refusal;
 use lent::clear;

@@ -19,17 +19,17 @@ use Rattle.setups.specs.Setups.{Setup, count, SettingTrue}
 use Rattle.setups.specs.Taken.{Taken}
 use Rattle.setups.specs.Settling.{opening}
 use Rattle.setups.proofs.Models.{assigns-full}
+use Rattle.forcing.specs.Tests.{isTrue, holds, Broken}
+use Rattle.forcing.specs.Values.{Agrees, Completes}
+use Rattle.forcing.specs.Steps.{Step, unmoved}
+use Rattle.forcing.specs.Standings.{Stands}
+use Rattle.forcing.specs.declared.forcing.Forced.{Forced}
+use Rattle.forcing.specs.declared.standing.Standing.{Standing}
+use Rattle.forcing.proofs.ValueLaws.{opens}
 use Rattle.question.specs.Asking.{Meets, Breaks, Says}
-use Rattle.question.specs.Tests.{isTrue, holds, Broken, Asked}
-use Rattle.question.specs.Values.{Agrees, Completes}
-use Rattle.question.specs.Steps.{Step, unmoved}
-use Rattle.question.specs.Standings.{Stands}
-use Rattle.question.specs.Searches.{Told}
+use Rattle.question.specs.Searches.{Asked, Told}
 use Rattle.question.specs.declared.Reply.the-variants.{Yes, No}
-use Rattle.question.specs.declared.forcing.Forced.{Forced}
 use Rattle.question.specs.declared.searching.Sought.{Sought}
-use Rattle.question.specs.declared.standing.Standing.{Standing}
-use Rattle.question.proofs.ValueLaws.{opens}
 use Rattle.question.proofs.Bridge.{rules-true, holds-true}
 
 module _ (g : Setup) (taken : Taken g) (all : ℕ) (every : all ≡ 2 ^ min (count g) settingsMost - 1) where

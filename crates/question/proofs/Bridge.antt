@@ -17,8 +17,8 @@ use Rattle.setups.specs.Refusals.{noClauseByte, offends}
 use Rattle.setups.specs.Setups.{Setup, settings, count, SettingTrue}
 use Rattle.setups.specs.Taken.{Taken}
 use Rattle.setups.proofs.LiteralLaws.{clause-bytes, place-below, place-found}
-use Rattle.question.specs.Tests.{slot, isTrue, passes, allPass, passesAt, holds}
-use Rattle.question.proofs.Verdicts.{verdicts, allOf, verdict-all, verdict-setting, verdicts-push}
+use Rattle.forcing.specs.Tests.{slot, isTrue, passes, allPass, passesAt, holds}
+use Rattle.forcing.proofs.Verdicts.{verdicts, allOf, verdict-all, verdict-setting, verdicts-push}
 
 -- ---- truth as a test
 

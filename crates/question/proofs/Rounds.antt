@@ -14,20 +14,20 @@ use Rattle.setups.specs.Limits.{settingsMost}
 use Rattle.setups.specs.Clauses.{clauses}
 use Rattle.setups.specs.Setups.{settings}
 use Rattle.setups.specs.Searching.{freeCount}
-use Rattle.question.specs.Tests.{isTrue, mayBe, passesAt, holds, Asked}
-use Rattle.question.specs.Founds.{Each, Narrows}
-use Rattle.question.specs.Selectors.{Owing, OwingBoth}
-use Rattle.question.specs.Values.{Decided, Agrees}
-use Rattle.question.specs.Steps.{Step, unmoved}
-use Rattle.question.specs.Standings.{Stands}
-use Rattle.question.specs.Searches.{failing, Settles}
-use Rattle.question.specs.declared.forcing.Forced.{Forced}
-use Rattle.question.specs.declared.found.Narrowed.{Narrowed}
-use Rattle.question.specs.declared.selectors.Owed.the-variants.{Every, Only}
+use Rattle.found.specs.Founds.{Each, Narrows}
+use Rattle.found.specs.declared.Narrowed.{Narrowed}
+use Rattle.forcing.specs.Tests.{isTrue, mayBe, passesAt, holds}
+use Rattle.forcing.specs.Selectors.{Owing, OwingBoth}
+use Rattle.forcing.specs.Values.{Decided, Agrees}
+use Rattle.forcing.specs.Steps.{Step, unmoved}
+use Rattle.forcing.specs.Standings.{Stands}
+use Rattle.forcing.specs.declared.forcing.Forced.{Forced}
+use Rattle.forcing.specs.declared.selectors.Owed.the-variants.{Only}
+use Rattle.forcing.specs.declared.standing.Standing.{Standing}
+use Rattle.forcing.proofs.Verdicts.{verdict-clause, verdict-setting}
+use Rattle.forcing.proofs.StepLaws.{step-weaker}
+use Rattle.question.specs.Searches.{Asked, failing, Settles}
 use Rattle.question.specs.declared.searching.Round.{Round}
-use Rattle.question.specs.declared.standing.Standing.{Standing}
-use Rattle.question.proofs.Verdicts.{verdict-clause, verdict-setting}
-use Rattle.question.proofs.StepLaws.{step-weaker, step-then}
 use Rattle.question.proofs.TestLaws.{holds-more, all-at, true-may}
 
 -- ---- what is asked, as the passes take it
@@ -43,21 +43,6 @@ asked-both kept hard soft found test small asked = record { keeps = keeps; rules
         let held = asked .fit .keeps i (subst (λ (x : ℕ). In x kept) e h) in
         subst T (verdict-setting test soft i ∙ verdict-clause test (clauses soft) i)
         (and-right (ltb i settingsMost) (passesAt test (settings soft) i) held)
-
--- the pass over the kept settings alone, where it fails
-pub both-first : (kept : ℕ) (hard soft : List ℕ) (before keeps : Forced) → Step (λ m. Owing (Only kept) (isTrue m) soft) before keeps
-    → Step (λ m. OwingBoth kept (isTrue m) hard soft) before keeps
-both-first kept hard soft before keeps step =
-    step-weaker (λ m. OwingBoth kept (isTrue m) hard soft) (λ m. Owing (Only kept) (isTrue m) soft) before keeps step
-    (λ m both. both .keeps)
-
--- and the one over the hard clauses after it
-pub both-second : (kept : ℕ) (hard soft : List ℕ) (before keeps rules : Forced)
-    → Step (λ m. Owing (Only kept) (isTrue m) soft) before keeps
-    → Step (λ m. Owing Every (isTrue m) hard) keeps rules → Step (λ m. OwingBoth kept (isTrue m) hard soft) before rules
-both-second kept hard soft before keeps rules first second =
-    step-then (λ m. OwingBoth kept (isTrue m) hard soft) (λ m. Owing Every (isTrue m) hard) before keeps rules
-    (both-first kept hard soft before keeps first) second (λ m d both agrees. both .rules)
 
 -- both passes keep what answers the question
 pub asked-step : (kept : ℕ) (hard soft found values : List ℕ) (forced : Forced) → kept < 2 ^ settingsMost

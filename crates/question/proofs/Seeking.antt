@@ -12,13 +12,13 @@ use Rattle.sets.specs.Tests.{has}
 use Rattle.setups.specs.Clauses.{clauses, wish}
 use Rattle.setups.specs.Searching.{freeCount}
 use Rattle.setups.proofs.Settling.{wish-small}
-use Rattle.question.specs.Tests.{slot, isTrue, holds, Asked}
-use Rattle.question.specs.Founds.{Fit}
-use Rattle.question.specs.Values.{Decided, Agrees}
-use Rattle.question.specs.Searches.{Settles, Done, Told}
+use Rattle.found.specs.Founds.{Fit}
+use Rattle.forcing.specs.Tests.{slot, isTrue, holds}
+use Rattle.forcing.specs.Values.{Decided, Agrees}
+use Rattle.forcing.proofs.ValueLaws.{free-set-lt, agrees-set}
+use Rattle.question.specs.Searches.{Asked, Settles, Done, Told}
 use Rattle.question.specs.declared.searching.Round.{Round}
 use Rattle.question.specs.declared.searching.Sought.{Sought}
-use Rattle.question.proofs.ValueLaws.{free-set-lt, agrees-set}
 use Rattle.question.proofs.TestLaws.{all-more, holds-more, true-stays, true-was}
 use Rattle.question.proofs.Rounds.{asked-wider, asked-narrower}
 

@@ -14,8 +14,8 @@ use Rattle.setups.specs.Limits.{settingsMost}
 use Rattle.setups.specs.Clauses.{wish}
 use Rattle.setups.specs.Setups.{settings}
 use Rattle.setups.proofs.Settling.{wish-small}
-use Rattle.question.specs.Tests.{slot, isTrue, mayBe, passes, allPass, passesAt, holds}
-use Rattle.question.specs.Values.{Agrees}
+use Rattle.forcing.specs.Tests.{slot, isTrue, mayBe, passes, allPass, passesAt, holds}
+use Rattle.forcing.specs.Values.{Agrees}
 
 -- ---- more literals that pass
 

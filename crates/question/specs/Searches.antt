@@ -1,6 +1,6 @@
--- What settling, choosing and searching promise.
+-- What is asked over a test of literals, and what settling, choosing and searching promise.
 use mathlib.Core.Path.{_≡_}
-use mathlib.Core.Bool.{true, false}
+use mathlib.Core.Bool.{Bool, true, false}
 use mathlib.Core.List.{List, [], _∷_}
 use Prim.Native.Nat.{ℕ, _+_, _≤_, _<_}
 use lib.Dec.{T, lit<}
@@ -9,14 +9,19 @@ use Rattle.sets.specs.Sets.{Within}
 use Rattle.sets.specs.Tests.{has}
 use Rattle.setups.specs.Clauses.{clauses}
 use Rattle.setups.specs.Searching.{freeCount}
-use Rattle.question.specs.Tests.{slot, isTrue, allPass, holds, Asked}
-use Rattle.question.specs.Founds.{Each, Fit}
-use Rattle.question.specs.Values.{Decided, Agrees}
-use Rattle.question.specs.Standings.{Stands}
+use Rattle.found.specs.Founds.{Each, Fit}
+use Rattle.forcing.specs.Tests.{slot, isTrue, allPass, holds}
+use Rattle.forcing.specs.Values.{Decided, Agrees}
+use Rattle.forcing.specs.Standings.{Stands}
 use Rattle.question.specs.declared.searching.Round.{Round}
 use Rattle.question.specs.declared.choosing.Choice.{Choice}
 use Rattle.question.specs.declared.choosing.Choice.the-variants.{Literal, Nothing}
 use Rattle.question.specs.declared.searching.Sought.{Sought}
+
+-- the hard clauses pass, each kept setting holds, and of each found set one setting
+pub record Asked (kept : ℕ) (hard soft found : List ℕ) (test : ℕ → Bool) : Type 0 where
+  pub rules : T (allPass test (clauses hard))
+  pub fit : Fit kept found (holds test soft)
 
 -- a round that fails
 abbrev pub failing : List ℕ → ℕ → Round

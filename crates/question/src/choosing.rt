@@ -1,10 +1,15 @@
 // The choice of the next variable and value. It may be tuned without a proof: its contract says only that the variable is free.
 use crate::searching::Round;
-use crate::selectors::Owed;
-use crate::selectors::after;
-use crate::selectors::first;
-use crate::selectors::owes;
-use crate::standing::Standing;
+use forcing::FIRST;
+use forcing::Owed;
+use forcing::Standing;
+use forcing::after;
+use forcing::owes;
+use literals::FREE;
+use literals::Values;
+use literals::lowest_free;
+use literals::place;
+use literals::wish;
 use numbers::NEGATED;
 use numbers::VARIABLES_MOST;
 use sets::EMPTY;
@@ -12,11 +17,6 @@ use sets::SETTINGS_MOST;
 use sets::Set;
 use sets::meets;
 use sets::size;
-use setups::FREE;
-use setups::Values;
-use setups::lowest_free;
-use setups::place;
-use setups::wish;
 ghost use Rattle.question.specs.Searches.{Chosen};
 
 // The literal to try as true first; nothing where no variable is free.
@@ -32,13 +32,12 @@ struct Glance {
     free: u8,
 }
 
-fn unseen() -> Glance {
-    Glance {
-        met: false,
-        touched: false,
-        free: 0,
-    }
-}
+// A clause of which no literal is read.
+const UNSEEN: Glance = Glance {
+    met: false,
+    touched: false,
+    free: 0,
+};
 
 fn look(before: Glance, literal: u8, value: u8) -> Glance {
     if FREE <= value {
@@ -82,8 +81,8 @@ fn open_literal(due: bool, clause: Glance) -> u8 {
 // Clauses that nothing touches come last, so that variables of their own don't multiply the work of the others.
 fn pick(values: Values, owed: Owed, clauses: &[u8]) -> u8 {
     let mut untouched: u8 = 0;
-    let mut clause = unseen();
-    let mut selector = first();
+    let mut clause = UNSEEN;
+    let mut selector = FIRST;
     let mut i = 0;
     while i < clauses.len() {
         let byte = clauses[i];
@@ -95,7 +94,7 @@ fn pick(values: Values, owed: Owed, clauses: &[u8]) -> u8 {
                 }
                 untouched = earlier(untouched, open);
             }
-            clause = unseen();
+            clause = UNSEEN;
             selector = after(selector);
         } else {
             let at = place(byte);
@@ -112,8 +111,9 @@ fn tightest(sure: Set, possible: Set, found: &[Set]) -> Set {
     let mut fewest = SETTINGS_MOST + 1;
     let mut i = 0;
     while i < found.len() {
-        if !meets(found[i], sure) {
-            let open = found[i] & possible;
+        let set = found[i];
+        if !meets(set, sure) {
+            let open = set & possible;
             let left = size(open);
             if left < fewest {
                 fewest = left;

@@ -1,20 +1,15 @@
 // The question under List: is there a model that meets what is asked, and which settings does it make true?
 mod choosing;
-mod forcing;
-mod found;
 mod searching;
-mod selectors;
-mod standing;
-mod values;
 
+use forcing::complete;
 use forcing::give_up;
+use forcing::stand;
+use literals::opening;
 use searching::seek;
 use sets::Set;
 use sets::full;
-use setups::opening;
 use setups::settings_count;
-use standing::stand;
-use values::complete;
 ghost use Rattle.setups.specs.Setups.{setup};
 ghost use Rattle.setups.specs.Taken.{Taken};
 ghost use Rattle.question.specs.Asking.{Says};

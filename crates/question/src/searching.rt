@@ -1,27 +1,22 @@
 // The search of the question: settle, and split on what the chooser says. It stops as soon as what is asked is met.
 use crate::choosing::Choice;
 use crate::choosing::choose;
-use crate::forcing::Forced;
-use crate::forcing::force;
-use crate::forcing::start;
-use crate::found::fits;
-use crate::found::narrow;
-use crate::selectors::Owed;
-use crate::standing::Standing;
-use crate::standing::met;
-use crate::standing::stand;
-use crate::values::with_false;
-use crate::values::with_true;
+use forcing::Standing;
+use forcing::force_both;
+use forcing::met;
+use forcing::stand;
+use forcing::with_false;
+use forcing::with_true;
+use found::fits;
+use found::narrow;
+use literals::Values;
 use sets::EMPTY;
 use sets::Set;
-use setups::Values;
 ghost use mathlib.Core.Path.{_≡_};
 ghost use mathlib.Core.Bool.{true};
 ghost use mathlib.Core.Logic.{_↔_};
-ghost use Rattle.question.specs.Tests.{isTrue, Asked};
-ghost use Rattle.question.specs.Selectors.{OwingBoth};
-ghost use Rattle.question.specs.Steps.{unmoved, Step};
-ghost use Rattle.question.specs.Searches.{failing, Settles, Done, Told};
+ghost use Rattle.forcing.specs.Tests.{isTrue};
+ghost use Rattle.question.specs.Searches.{Asked, failing, Settles, Done, Told};
 
 // The values and kept settings after each rule was put to use once; whether that made a difference; how the settings stand then.
 pub struct Round {
@@ -52,17 +47,6 @@ fn failed(values: Values, kept: Set) -> Round
         },
         values,
     }
-}
-
-// The kept settings, then the hard clauses.
-fn force_both(values: Values, kept: Set, hard: &[u8], soft: &[u8]) -> Forced
-    ensures { λ r. ⌜ Step (λ m. OwingBoth kept (isTrue m) (now (hard .entry)) (now (soft .entry))) (unmoved values) r ⌝ }
-{
-    let keeps = force(start(values), Owed::Only(kept), soft);
-    if keeps.fails {
-        return keeps;
-    }
-    force(keeps, Owed::Every, hard)
 }
 
 // Each rule once: the kept settings, the hard clauses, the found sets.

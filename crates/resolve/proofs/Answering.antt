@@ -23,10 +23,10 @@ use Rattle.list.specs.declared.Listing.the-variants.{Listed, Unmet, Refused}
 use Rattle.turn.specs.Turning.{answered as turnAnswered}
 use Rattle.turn.specs.declared.Turning.{Turning}
 use Rattle.turn.specs.declared.Turning.the-variants.{Listed as TurnListed, Refused as TurnRefused}
-use Rattle.frames.specs.declared.reading.Reading.{Reading}
-use Rattle.frames.specs.declared.reading.Reading.the-variants.{Read, Refused as ReadRefused}
-use Rattle.frames.specs.Read.{ReadResult, readingOf}
-use Rattle.resolve.specs.Lines.{answerLines, refusalLines}
+use Rattle.read.specs.declared.Reading.{Reading}
+use Rattle.read.specs.declared.Reading.the-variants.{Read, Refused as ReadRefused}
+use Rattle.read.specs.Read.{ReadResult, readingOf}
+use Rattle.lines.specs.Lines.{answerLines, refusalLines}
 use Rattle.resolve.specs.Resolve.{places, scratchPlaces, reading, setupRead, listedLines, AnswersTurn, Answers, Resolves}
 
 -- ---- List and Turn have a result, whatever they are given

@@ -19,10 +19,10 @@ use Rattle.list.specs.declared.Listing.the-variants.{Listed}
 use Rattle.turn.specs.Turning.{answered as turnAnswered}
 use Rattle.turn.specs.declared.Turning.{Turning}
 use Rattle.turn.specs.declared.Turning.the-variants.{Listed as TurnListed}
-use Rattle.frames.specs.declared.reading.Reading.{Reading}
-use Rattle.frames.specs.declared.reading.Reading.the-variants.{Read}
-use Rattle.frames.specs.Texts.{judge, hardOf, softOf}
-use Rattle.frames.specs.Read.{ReadResult, readingOf, readRefusal, filledWith, readResult}
+use Rattle.read.specs.declared.Reading.{Reading}
+use Rattle.read.specs.declared.Reading.the-variants.{Read}
+use Rattle.read.specs.Texts.{judge, hardOf, softOf}
+use Rattle.read.specs.Read.{ReadResult, readingOf, readRefusal, filledWith, readResult}
 
 -- the places that a result has filled are places of its list
 abbrev Fits : ListResult → Type 0

@@ -1,7 +1,7 @@
 -- The laws behind the program's function.
 
--- the lines, stored one after the other
-pub mod Stored
+-- what was put out lies within the output
+pub mod Within
 -- how many places a result has filled
 pub mod Filled
 -- from what Read, List and Turn answer to the lines

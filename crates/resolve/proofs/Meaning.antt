@@ -22,10 +22,10 @@ use Rattle.setups.proofs.Duality.{unmet-no-way-out, unmet-empty-clash}
 use Rattle.setups.proofs.Refusals.{check-most}
 use Rattle.list.proofs.Promise.{list-means}
 use Rattle.turn.proofs.Promise.{turn-clashes}
-use Rattle.frames.specs.Texts.{good, judge, isBad, hardOf, softOf}
-use Rattle.frames.specs.Read.{ReadResult, textMost, readRefusal, readResult}
-use Rattle.frames.proofs.Promises.{read-gives, read-accepts}
-use Rattle.resolve.specs.Lines.{answerLines}
+use Rattle.read.specs.Texts.{good, judge, isBad, hardOf, softOf}
+use Rattle.read.specs.Read.{ReadResult, textMost, readRefusal, readResult}
+use Rattle.read.proofs.Promise.{read-gives, read-accepts}
+use Rattle.lines.specs.Lines.{answerLines}
 use Rattle.resolve.specs.Resolve.{places, scratchPlaces, reading, setupRead, turnedLines, Answers, Resolves}
 use Rattle.resolve.specs.Meaning.{Resolved, Found, Refused}
 

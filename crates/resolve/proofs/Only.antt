@@ -13,7 +13,7 @@ use Rattle.setups.specs.List.{ListResult, listedSets}
 use Rattle.setups.specs.Turn.{Turns}
 use Rattle.list.proofs.Promise.{result-only}
 use Rattle.turn.proofs.Promise.{turns-only}
-use Rattle.resolve.specs.Lines.{refusalLines}
+use Rattle.lines.specs.Lines.{refusalLines}
 use Rattle.resolve.specs.Resolve.{places, scratchPlaces, reading, setupRead, listedLines, Answers, Resolves, PutsOut}
 
 answers-only : (g : Setup) (a b : List ℕ) → Answers g a → Answers g b → a ≡ b

@@ -1,4 +1,3 @@
--- What the program's function gives back: the lines it puts out, and the way from the text to them.
-pub mod Lines
+-- What the program's function gives back, from the text to the lines it puts out.
 pub mod Resolve
 pub mod Meaning

@@ -6,8 +6,8 @@ use Prim.Native.Nat.{ℕ}
 use Rattle.sets.specs.Lists.{Exactly}
 use Rattle.setups.specs.Setups.{Setup, setup, WayOut, Clash}
 use Rattle.setups.specs.Refusals.{finished, unmet}
-use Rattle.frames.specs.Texts.{judge, good}
-use Rattle.resolve.specs.Lines.{answerLines, refusalLines}
+use Rattle.read.specs.Texts.{judge, good}
+use Rattle.lines.specs.Lines.{answerLines, refusalLines}
 
 -- the 40 lines are exactly the ways out of the setup, rising, and the 50 lines exactly its clashes
 pub record Resolved (g : Setup) (outcome : ℕ) (lines : List ℕ) : Type 0 where

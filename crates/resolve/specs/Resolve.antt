@@ -10,8 +10,8 @@ use Rattle.setups.specs.Setups.{Setup, setup, count}
 use Rattle.setups.specs.Refusals.{finished, unmet}
 use Rattle.setups.specs.List.{ListResult, listedSets, Lists}
 use Rattle.setups.specs.Turn.{Turns}
-use Rattle.frames.specs.Read.{ReadResult, readResult}
-use Rattle.resolve.specs.Lines.{answerLines, refusalLines, Puts}
+use Rattle.read.specs.Read.{ReadResult, readResult}
+use Rattle.lines.specs.Lines.{answerLines, refusalLines, Puts}
 
 -- "It lends 8,192, 2,048 and twice 1,024 places, and a scratch of 1,025"
 abbrev pub places : ℕ → List ℕ

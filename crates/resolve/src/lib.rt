@@ -1,25 +1,30 @@
 // The program's function: from the frames to the lines that are put out (document 01, "The program's lines").
-mod lines;
-
-use frames::Reading;
+use lines::CLASH;
+use lines::LAST_LINE;
+use lines::SET_LINE;
 use lines::put_answer;
+use lines::put_last;
+use lines::put_line;
 use lines::put_refusal;
-use lines::put_unmet;
 use list::Listing;
+use read::Reading;
 use sets::EMPTY;
 use sets::Set;
 use setups::FINISHED;
 use setups::HARD_BYTES_MOST;
 use setups::SETS_MOST;
 use setups::SOFT_BYTES_MOST;
+use setups::UNMET;
 use setups::refusal_number;
 use setups::settings_count;
 use turn::Turning;
+ghost use mathlib.Core.List.{[], _∷_};
 ghost use Prim.Native.Nat.{_≤_};
 ghost use lib.ListN.{length};
 ghost use Rattle.setups.specs.Limits.{setsMost};
 ghost use Rattle.setups.specs.Setups.{setup};
-ghost use Rattle.resolve.specs.Lines.{outputMost};
+ghost use Rattle.setups.specs.Refusals.{unmet};
+ghost use Rattle.lines.specs.Lines.{answerLines, outputMost, Puts};
 ghost use Rattle.resolve.specs.Resolve.{PutsOut, AnswersTurn, Answers, Resolves};
 
 // How many bytes come out at the most: two full lists of lines, and the last line.
@@ -27,6 +32,16 @@ pub const OUTPUT_MOST: usize = 22_541;
 
 // "a scratch of 1,025": one place more than a list has.
 const SCRATCH_PLACES: usize = SETS_MOST + 1;
+
+// Under Unmet the empty set is the only clash.
+fn put_unmet(output: &mut [u8]) -> usize
+    requires { ⌜ outputMost ≤ length (now output) ⌝ }
+    ensures { λ r. ⌜ Puts (answerLines unmet [] (0 ∷ [])) (now (output .entry)) r (now (output .exit)) ⌝ }
+{
+    put_line(output, 0, CLASH, EMPTY);
+    put_last(output, SET_LINE, UNMET, 0, 1);
+    SET_LINE + LAST_LINE
+}
 
 // The ways out are turned into the clashes, and both are put out.
 fn put_turned(settings: u32, ways: &[Set], scratch: &mut [Set], output: &mut [u8]) -> usize
@@ -65,7 +80,7 @@ pub fn resolve(text: &[u8], output: &mut [u8; OUTPUT_MOST]) -> usize
 {
     let mut hard = [0u8; HARD_BYTES_MOST];
     let mut soft = [0u8; SOFT_BYTES_MOST];
-    match frames::read(text, &mut hard, &mut soft) {
+    match read::read(text, &mut hard, &mut soft) {
         Reading::Refused(refusal) => put_refusal(output, refusal_number(refusal)),
         Reading::Read {
             count,

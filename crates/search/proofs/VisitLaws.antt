@@ -12,12 +12,12 @@ use Rattle.setups.specs.Settling.{put}
 use Rattle.setups.specs.Searching.{scan, freeCount, lowestFree, settle, visit}
 use Rattle.setups.proofs.Scanning.{free-set, lowest-cases}
 use Rattle.setups.proofs.Visits.{scan-fewer, settle-on, settle-fewer, visit-none, visit-model, visit-split, visits-exist, visits-one}
-use Rattle.search.specs.declared.Scanned.{Scanned}
+use Rattle.scans.specs.declared.Scanned.{Scanned}
+use Rattle.scans.specs.Scans.{scanned, clausesOf, ReadableAll}
+use Rattle.scans.proofs.Literals.{placed, forced-literal}
 use Rattle.search.specs.declared.Settled.{Settled}
 use Rattle.search.specs.declared.Outcome.the-variants as outcome
-use Rattle.search.specs.Scans.{scanned, clausesOf, ReadableAll}
 use Rattle.search.specs.Told.{settledOf, withoutModel, told, either, sides}
-use Rattle.search.proofs.Literals.{placed, forced-literal}
 use Rattle.search.proofs.Telling.{told-spent, told-none, told-model, told-after, split-either}
 
 -- ---- the lowest free value

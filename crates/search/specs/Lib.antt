@@ -1,3 +1,2 @@
 -- What the functions of the search promise, over the search of setups/specs/Searching.antt.
-pub mod Scans
 pub mod Told

@@ -1,17 +1,9 @@
 // The search of an ask: visit and split call each other, free variables falling around the cycle (document 01, "One ask").
 // It takes two clause buffers and assumed literals, and knows no limit on their bytes.
-mod scans;
 mod visits;
 
-use setups::Seen;
-use setups::Values;
+use literals::Values;
 pub use visits::visit;
-
-// What a scan decides, and how many clauses it has passed before the one that decided.
-pub struct Scanned {
-    pub seen: Seen,
-    pub passed: usize,
-}
 
 // Whether settling fails, and the values when it ends.
 pub struct Settled {

@@ -2,20 +2,20 @@
 use crate::Answer;
 use crate::Outcome;
 use crate::Settled;
-use crate::scans::scan_all;
+use literals::Values;
+use literals::lowest_free;
+use literals::place;
+use literals::wish;
 use numbers::VARIABLES_MOST;
 use numbers::Variable;
 use numbers::value_place;
+use scans::scan_all;
 use setups::Seen;
-use setups::Values;
-use setups::lowest_free;
-use setups::place;
-use setups::wish;
 ghost use mathlib.Core.Path.{_≡_};
 ghost use Prim.Native.Nat.{_-_, _≤_, _<_};
 ghost use lib.ListN.{getD};
 ghost use Rattle.setups.specs.Searching;
-ghost use Rattle.search.specs.Scans.{clausesOf, ReadableAll};
+ghost use Rattle.scans.specs.Scans.{clausesOf, ReadableAll};
 ghost use Rattle.search.specs.Told.{settledOf, withoutModel, told, sides};
 
 // Sets forced values one by one: after each the scan starts again from the first clause.

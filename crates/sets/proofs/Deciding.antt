@@ -1,5 +1,5 @@
 -- Tests and decisions: what a passed test says, how to take a Bool apart, and what is decided over finitely many numbers.
-use mathlib.Core.Path.{_≡_, refl, subst}
+use mathlib.Core.Path.{_≡_, refl, sym, _∙_, subst}
 use mathlib.Core.Logic.{_⊎_, inl, inr, _↔_, Dec·and, Dec·not, Dec·not-not, by-cases}
 use mathlib.Core.Bool.{Bool, true, false, not, cond, true≢false, false≢true, _&&_, _||_}
 use Prim.Native.Nat.{ℕ, zero, suc, _<_}
@@ -84,6 +84,10 @@ T-equal true true e = refl
 T-equal true false e = absurd (e .0 tt)
 T-equal false true e = absurd (e .1 tt)
 T-equal false false e = refl
+
+-- where a test answers false, its fact fails
+pub refuted : {A : Type 0} {answer : Bool} → ((answer ≡ true) ↔ A) → answer ≡ false → ¬ A
+refuted says fails a = true≢false (sym (says .1 a) ∙ fails)
 
 -- ---- a Bool that does not compute, taken apart: each case knows what the Bool is
 

@@ -4,8 +4,8 @@ use Prim.Native.Nat.{ℕ, zero, suc, _+_, _-_, _*_, _/_, _%_, _^_, _<_, min}
 use native.Mathlib.Omega.{arith}
 use lib.Arith.{bin-ind}
 use lib.Bits.{bitAnd, and-step, and-self}
-use Rattle.sets.specs.Sets.{In, AtMostOne}
-use Rattle.sets.proofs.Digits.{digit-zero, half-in, none-in, within-none, ext-in, and-in, power-in, full-in}
+use Rattle.sets.specs.Sets.{In, only, AtMostOne}
+use Rattle.sets.proofs.Digits.{digit-zero, half-in, none-in, within-none, ext-in, and-in, power-in, full-in, only-in}
 
 -- a set that has the first setting, and has nothing in common with the number before it, has no other
 first-only : (S : ℕ) → In 0 S → bitAnd S (S - 1) ≡ 0 → S / 2 ≡ 0
@@ -45,3 +45,7 @@ only-one S single = within-none (bitAnd S (S - 1)) (λ i h. absurd (clash i (and
         let power : S ≡ 2 ^ i = ext-in S (2 ^ i) (λ j. ((λ k. power-in i j .1 (single j i k (h .0))), λ k. rw (power-in i j .0 k) (h .0))) in
         let below : i < i = full-in i i .0 (rw power at (h .1)) in
         omega arith
+
+-- the set of one setting has no two
+pub only-lone : (width number : ℕ) → AtMostOne (only width number)
+only-lone width number i j h k = omega (arith, only-in width number i .0 h .0, only-in width number j .0 k .0)

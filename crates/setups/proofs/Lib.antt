@@ -14,8 +14,6 @@ pub mod Scanning
 pub mod Visits
 -- the search finds the first model, or there is none
 pub mod Models
--- the values that a search begins with, and the lowest free one
-pub mod ValueLaws
 -- a literal byte's place, in code and in the definitions
 pub mod LiteralLaws
 -- the byte checks: the first place that offends, and what the refusals say of it

@@ -2,8 +2,6 @@
 // them. specs/ has the definitions that every contract cites, proofs/ their laws.
 mod checks;
 mod judging;
-mod literals;
-mod values;
 
 pub use checks::clause_count;
 pub use checks::first_bad_assumed;
@@ -14,13 +12,6 @@ pub use checks::softs_place;
 pub use checks::tail_place;
 pub use judging::Judged;
 pub use judging::judge_clauses;
-pub use literals::place;
-pub use literals::see;
-pub use literals::wish;
-pub use values::FREE;
-pub use values::Values;
-pub use values::lowest_free;
-pub use values::opening;
 ghost use mathlib.Core.Path.{_≡_};
 ghost use Rattle.setups.specs.Refusals.{numberOf};
 

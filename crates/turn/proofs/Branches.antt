@@ -7,7 +7,7 @@ use native.Mathlib.Decide.{ℕ-discrete}
 use Rattle.sets.specs.Sets.{In, Within, Share}
 use Rattle.sets.proofs.Deciding.{stable}
 use Rattle.sets.proofs.Digits.{none-in, within-self, missing, share-dec, out-in, out-within}
-use Rattle.turn.specs.Members.{Hits, Alone, Own, Waits}
+use Rattle.members.specs.Members.{Hits, Alone, Own, Waits}
 use Rattle.turn.specs.Branches.{Branch, TurnsOn}
 
 module _ {members : List ℕ} {taken left : ℕ} where

@@ -13,7 +13,7 @@ use Rattle.sets.specs.Tests.{has, every, all}
 use Rattle.sets.proofs.Deciding.{and-left, and-right, and-both, implies-use, implies-make, stable}
 use Rattle.sets.proofs.Digits.{in-below, missing, share-dec, out-in, out-within, within-out}
 use Rattle.sets.proofs.Tests.{has-in, in-has, lacks-iff, every-at, at-every, all-at, at-all, lists, lists-exactly}
-use Rattle.turn.specs.Members.{Hits}
+use Rattle.members.specs.Members.{Hits}
 
 -- ---- the tests
 

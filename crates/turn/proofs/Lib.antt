@@ -1,9 +1,5 @@
 -- The laws behind Turn, and what its promise says.
 
--- the lowest setting of a set
-mod Single
--- members, hit and unhit
-mod Members
 -- a set put in its place
 mod Placing
 -- the branches of the search

@@ -3,7 +3,7 @@ use mathlib.Core.Logic.{_⊎_, _≢_}
 use mathlib.Core.List.{List}
 use Prim.Native.Nat.{ℕ}
 use Rattle.sets.specs.Sets.{In, Within, Share, Smallest}
-use Rattle.turn.specs.Members.{Hits}
+use Rattle.members.specs.Members.{Hits}
 
 -- the sets that a branch holds: they hit every member while no proper subset does, have every taken setting, and no setting that is
 -- neither taken nor left

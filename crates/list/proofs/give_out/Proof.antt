@@ -4,10 +4,11 @@ use mathlib.Core.List.{[]}
 use borrow.Author.Needs.{needs}
 use native.Mathlib.Omega.{arith}
 use Rattle.setups.specs.Setups.{setup}
-use Rattle.list.specs.declared.walk.Branch.{Branch}
-use Rattle.list.specs.declared.walk.Branch.the-variants.{Live, Dead}
-use Rattle.list.specs.Walking.{Enters}
-use Rattle.list.proofs.Giving.{root-reached, root-dead, root-met, root-walked, Whole, whole-many, whole-listed}
+use Rattle.walk.specs.declared.Branch.{Branch}
+use Rattle.walk.specs.declared.Branch.the-variants.{Live, Dead}
+use Rattle.walk.specs.Walking.{Enters}
+use Rattle.walk.proofs.Root.{root-reached, root-met, root-walked}
+use Rattle.list.proofs.Giving.{root-dead, Whole, whole-many, whole-listed}
 use Rattle.list.proofs.give_out.Statement.{statement}
 use Rattle.list.proofs.give_out.Tie as tie
 

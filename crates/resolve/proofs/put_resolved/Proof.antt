@@ -5,7 +5,7 @@ use native.Mathlib.Omega.{arith}
 use lib.Seq.{length-take-le}
 use Rattle.setups.specs.Limits.{setsMost}
 use Rattle.setups.specs.Refusals.{unmet}
-use Rattle.resolve.specs.Lines.{answerLines, refusalLines}
+use Rattle.lines.specs.Lines.{answerLines, refusalLines}
 use Rattle.resolve.specs.Resolve.{places, scratchPlaces}
 use Rattle.resolve.proofs.Filled.{list-places, list-settings}
 use Rattle.resolve.proofs.Answering.{list-refused, list-unmet, list-listed}

@@ -5,9 +5,9 @@ use lib.ListN.{take}
 use lib.Seq.{length-take-le}
 use Rattle.setups.specs.Limits.{setsMost}
 use Rattle.setups.specs.Refusals.{finished}
-use Rattle.resolve.specs.Lines.{answerLines, refusalLines}
+use Rattle.lines.specs.Lines.{answerLines, refusalLines}
 use Rattle.resolve.specs.Resolve.{places}
-use Rattle.resolve.proofs.Stored.{answer-length}
+use Rattle.lines.proofs.Stored.{answer-length}
 use Rattle.resolve.proofs.Filled.{turn-places}
 use Rattle.resolve.proofs.Answering.{turn-refused, turn-listed}
 use borrow.Author.Needs.{needs}

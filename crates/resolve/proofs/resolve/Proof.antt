@@ -2,7 +2,7 @@
 use mathlib.Core.Path.{sym}
 use lib.Seq.{length-take-le}
 use Rattle.setups.specs.Limits.{hardBytesMost, softBytesMost}
-use Rattle.resolve.specs.Lines.{refusalLines}
+use Rattle.lines.specs.Lines.{refusalLines}
 use Rattle.resolve.specs.Resolve.{places}
 use Rattle.resolve.proofs.Filled.{read-places}
 use Rattle.resolve.proofs.Answering.{read-refused, read-read}

@@ -4,7 +4,7 @@ use Prim.Native.Nat.{_≤_}
 use borrow.Author.Needs.{needs}
 use lib.ListN.{length}
 use lib.Seq.{length-take-le}
-use Rattle.resolve.proofs.Stored.{put-within}
+use Rattle.resolve.proofs.Within.{put-within}
 use Rattle.texts.proofs.answer.Statement.{statement}
 use Rattle.texts.proofs.answer.Tie as tie
 

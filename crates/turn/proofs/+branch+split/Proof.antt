@@ -8,8 +8,8 @@ use borrow.Fn.Kinds.{In}
 use borrow.Fn.PlainCycle.{Measures, is, falls, and}
 use Rattle.sets.specs.Sets.{only}
 use Rattle.setups.specs.Limits.{settingsMost}
-use Rattle.turn.specs.Members.{Finds}
-use Rattle.turn.proofs.Single.{only-lone}
+use Rattle.members.specs.Members.{Finds}
+use Rattle.sets.proofs.Single.{only-lone}
 use Rattle.turn.proofs.Branches.{own-empty, lost-empty, hit-one, wants-turns}
 use Rattle.turn.proofs.Growth.{grown-none, grown-one}
 use Rattle.turn.proofs.Splitting.{Parts, fewer-left, leave-turns, take-ready, take-full, take-last, leave-ready, take-and-leave}
@@ -21,10 +21,10 @@ use Rattle.turn.proofs.split.Kinds as split-kinds
 use Rattle.turn.proofs.+branch+split.Lts-split as split-lts
 use Rattle.sets.proofs.with.Reads as with-reads
 use Rattle.sets.proofs.without.Reads as without-reads
-use Rattle.turn.proofs.choose.Reads as choose-reads
-use Rattle.turn.proofs.find_unhit.Reads as find-unhit-reads
+use Rattle.members.proofs.choose.Reads as choose-reads
+use Rattle.members.proofs.find_unhit.Reads as find-unhit-reads
 use Rattle.turn.proofs.insert.Reads as insert-reads
-use Rattle.turn.proofs.own.Reads as own-reads
+use Rattle.members.proofs.own.Reads as own-reads
 use Rattle.turn.proofs.+branch+split.{statement}
 use Rattle.turn.proofs.+branch+split.Tie.{close}
 

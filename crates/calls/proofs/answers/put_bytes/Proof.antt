@@ -19,8 +19,6 @@ put-bytes-spec =
     Inv-loop
     μ-loop
     (λ c κs. tt)
-    (λ c κs. tt)
-    (λ c. tt)
     (λ c. omega arith)
     (λ c. omega arith)
     (λ c. omega (arith, c .shared-slice-known2 .given (c .before .before .before .loop .i)))

@@ -19,8 +19,6 @@ put-sets-spec =
     Inv-loop
     μ-loop
     (λ c κs. tt)
-    (λ c κs. tt)
-    (λ c. tt)
     (λ c. omega arith)
     (λ c. omega arith)
     (λ c. omega arith)

@@ -1,8 +1,9 @@
 -- `fields::sets_of` is safe and ends. The places stay as many as they were; the measure is the sets that are left to put.
-use mathlib.Core.Path.{_≡_}
+use mathlib.Core.Path.{_≡_, sym}
 use Prim.Native.Nat.{_-_}
 use native.Mathlib.Omega.{arith}
 use lib.ListN.{length, length-set}
+use lib.Seq.{length-take-le}
 use Rattle.calls.proofs.fields.sets_of.Statement.{statement}
 use Rattle.calls.proofs.fields.sets_of.Tie as tie
 
@@ -22,18 +23,12 @@ sets-of-spec =
     (λ c κs. tt)
     (λ c. omega arith)
     (λ c. omega arith)
-    (λ c. omega arith)
-    (λ c. omega arith)
-    (λ c. omega arith)
-    (λ c. omega arith)
-    (λ c κs. tt)
+    (λ c κs. omega arith)
     (λ c. omega arith)
     (λ c. omega arith)
     (λ c. omega arith)
     (λ c. omega arith)
     (λ c. omega arith)
     (λ c. simp length-set (omega arith))
-    (λ c. omega arith)
-    (λ c. omega arith)
-    (λ c. omega arith)
+    (λ c. sym (length-take-le _ _ (omega arith)))
     (λ c. tt))

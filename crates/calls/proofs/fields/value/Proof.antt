@@ -1,16 +1,15 @@
 -- `fields::value` is safe and ends. The measure is the digits that are left.
 use mathlib.Core.Path.{_≡_}
-use Prim.Native.Nat.{_-_}
+use Prim.Native.Nat.{_+_, _-_}
 use native.Mathlib.Omega.{arith}
-use lib.ListN.{length}
 use Rattle.calls.proofs.fields.value.Statement.{statement}
 use Rattle.calls.proofs.fields.value.Tie as tie
 
 abbrev Inv-loop : tie.InvT-loop
-Inv-loop digits value₀ i₀ i-end value i = i-end ≡ length digits
+Inv-loop text at digits value₀ i₀ i-end value i = i-end ≡ at + digits
 
 abbrev μ-loop : tie.MeasureT-loop
-μ-loop digits value₀ i₀ i-end value i = i-end - i
+μ-loop text at digits value₀ i₀ i-end value i = i-end - i
 
 pub value-spec : {M : Type 1} → statement M
 value-spec =
@@ -18,6 +17,7 @@ value-spec =
     (tie.spec
     Inv-loop
     μ-loop
+    (λ c. omega arith)
     (λ c. omega arith)
     (λ c. omega arith)
     (λ c. omega arith)

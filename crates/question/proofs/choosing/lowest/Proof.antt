@@ -1,6 +1,6 @@
 -- `choosing::lowest` meets its contract: the lowest free variable is free, and where there is none, no variable is.
 use borrow.Author.Needs.{needs}
-use Rattle.question.proofs.ValueLaws.{lowest-chosen, none-free}
+use Rattle.forcing.proofs.ValueLaws.{lowest-chosen, none-free}
 use Rattle.question.proofs.choosing.lowest.Statement.{statement}
 use Rattle.question.proofs.choosing.lowest.Tie as tie
 

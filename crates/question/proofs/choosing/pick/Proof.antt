@@ -11,12 +11,6 @@ Inv-loop owed clauses values untouched₀ clause₀ selector₀ i₀ untouched c
 abbrev μ-loop : tie.MeasureT-loop
 μ-loop owed clauses values untouched₀ clause₀ selector₀ i₀ untouched clause selector i = length clauses - i
 
-unseen-requires : tie.Need-unseen-requires Inv-loop μ-loop
-unseen-requires c κs = search needs
-
-first-requires : tie.Need-first-requires Inv-loop μ-loop
-first-requires c κs = search needs
-
 loop-holds : tie.Need-loop-holds Inv-loop μ-loop
 loop-holds c = search needs
 
@@ -34,9 +28,6 @@ returns c = search needs
 
 earlier-requires : tie.Need-earlier-requires Inv-loop μ-loop
 earlier-requires c κs = search needs
-
-unseen-requires-2 : tie.Need-unseen-requires-2 Inv-loop μ-loop
-unseen-requires-2 c κs = search needs
 
 after-requires : tie.Need-after-requires Inv-loop μ-loop
 after-requires c κs = search needs
@@ -68,15 +59,12 @@ pick-spec =
     (tie.spec
     Inv-loop
     μ-loop
-    unseen-requires
-    first-requires
     loop-holds
     shared-slice-read-byte
     owes-requires
     open-literal-requires
     returns
     earlier-requires
-    unseen-requires-2
     after-requires
     place-requires
     array-read-look

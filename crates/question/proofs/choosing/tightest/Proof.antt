@@ -17,20 +17,14 @@ add-fewest c = search needs
 loop-holds : tie.Need-loop-holds Inv-loop μ-loop
 loop-holds c = search needs
 
-mul-meets : tie.Need-mul-meets Inv-loop μ-loop
-mul-meets c = search needs
+mul-set : tie.Need-mul-set Inv-loop μ-loop
+mul-set c = search needs
 
-shared-slice-read-meets : tie.Need-shared-slice-read-meets Inv-loop μ-loop
-shared-slice-read-meets c = search needs
+shared-slice-read-set : tie.Need-shared-slice-read-set Inv-loop μ-loop
+shared-slice-read-set c = search needs
 
 meets-requires : tie.Need-meets-requires Inv-loop μ-loop
 meets-requires c κs = search needs
-
-mul-open : tie.Need-mul-open Inv-loop μ-loop
-mul-open c = search needs
-
-shared-slice-read-open : tie.Need-shared-slice-read-open Inv-loop μ-loop
-shared-slice-read-open c = search needs
 
 size-requires : tie.Need-size-requires Inv-loop μ-loop
 size-requires c κs = search needs
@@ -55,11 +49,9 @@ tightest-spec =
     μ-loop
     add-fewest
     loop-holds
-    mul-meets
-    shared-slice-read-meets
+    mul-set
+    shared-slice-read-set
     meets-requires
-    mul-open
-    shared-slice-read-open
     size-requires
     add-i
     loop-less

@@ -10,13 +10,13 @@ use borrow.Fn.PlainCycle.{Measures, is, falls, and}
 use Rattle.setups.specs.Clauses.{wish}
 use Rattle.setups.specs.Searching.{freeCount}
 use Rattle.setups.proofs.Settling.{wish-small}
+use Rattle.forcing.proofs.with_false.Reads as with-false-reads
+use Rattle.forcing.proofs.with_true.Reads as with-true-reads
 use Rattle.question.specs.Searches.{Chosen}
 use Rattle.question.proofs.Seeking.{told-stuck, told-done, told-full, told-first, told-second, split-less}
 use Rattle.question.proofs.choosing.choose.Reads as choose-reads
 use Rattle.question.proofs.searching.done.Reads as done-reads
 use Rattle.question.proofs.searching.settle.Reads as settle-reads
-use Rattle.question.proofs.values.with_false.Reads as with-false-reads
-use Rattle.question.proofs.values.with_true.Reads as with-true-reads
 use Rattle.question.proofs.searching.seek.Reads as seek
 use Rattle.question.proofs.searching.seek.Kinds as seek-kinds
 use Rattle.question.proofs.searching.+seek.Lts-seek as seek-lts

@@ -2,8 +2,9 @@
 use Prim.Native.Nat.{_<_, _^_}
 use native.Mathlib.Omega.{arith}
 use borrow.Author.Needs.{needs}
-use Rattle.question.specs.Tests.{isTrue, Asked}
-use Rattle.question.specs.Steps.{Step, unmoved}
+use Rattle.forcing.specs.Tests.{isTrue}
+use Rattle.forcing.specs.Steps.{Step, unmoved}
+use Rattle.question.specs.Searches.{Asked}
 use Rattle.question.proofs.Rounds.{asked-step, settles-stuck, settles-dead, settles-same, settles-wider}
 use Rattle.question.proofs.searching.one_round.Statement.{statement}
 use Rattle.question.proofs.searching.one_round.Tie as tie

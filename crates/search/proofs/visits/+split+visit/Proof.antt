@@ -10,8 +10,8 @@ use lib.ListN.{length, getD, set}
 use Rattle.setups.specs.Searching as searching
 use Rattle.numbers.proofs.value_place.Reads as value-place-reads
 use Rattle.setups.proofs.Settling.{free-inside}
-use Rattle.setups.proofs.lowest_free.Reads as lowest-free-reads
-use Rattle.search.specs.Scans.{clausesOf}
+use Rattle.literals.proofs.lowest_free.Reads as lowest-free-reads
+use Rattle.scans.specs.Scans.{clausesOf}
 use Rattle.search.specs.Told.{told}
 use Rattle.search.proofs.Telling.{model-not-none, spent-not-none, first-tells, second-tells}
 use Rattle.search.proofs.VisitLaws.{lowest-free, sides-fewer, visit-spent, visit-fails, visit-models, visit-splits, visit-fewer}

@@ -5,7 +5,7 @@ use borrow.Author.Needs.{needs}
 use lib.ListN.{set}
 use Rattle.setups.specs.Searching.{freeCount, settle}
 use Rattle.setups.proofs.Visits.{settle-fails, settle-stops}
-use Rattle.search.specs.Scans.{clausesOf}
+use Rattle.scans.specs.Scans.{clausesOf}
 use Rattle.search.specs.Told.{settledOf}
 use Rattle.search.proofs.VisitLaws.{scan-seen, Turned, forced-turn}
 use Rattle.search.proofs.visits.settle.Statement.{statement}

@@ -1,0 +1,114 @@
+-- Values by place: what a value that is set does to the free ones and to who agrees; the first and the last values of a search.
+use mathlib.Core.Path.{_≡_, refl, sym, _∙_, subst}
+use mathlib.Core.Logic.{_≢_, by-cases, ⊎-elim}
+use mathlib.Core.List.{List, [], _∷_, _++_}
+use Prim.Native.Nat.{ℕ, zero, suc, _+_, _-_, _≤_, _<_, zero-le, suc-le-suc}
+use native.Mathlib.Nat.{not-suc-le-zero, zero-lt-suc}
+use native.Mathlib.Decide.{ℕ-discrete}
+use native.Mathlib.Omega.{arith}
+use borrow.Author.Tests.{le-ltb}
+use lib.ListN.{length, getD, set, replicate, length-set}
+use lib.Seq.{getD-set-same, getD-set-other}
+use Rattle.numbers.proofs.Places.{zeros-at}
+use Rattle.setups.specs.Limits.{variablesMost}
+use Rattle.setups.specs.Settling.{opening}
+use Rattle.setups.specs.Searching.{freeCount, lowestFree}
+use Rattle.setups.proofs.Scanning.{free-set, lowest-cases}
+use Rattle.forcing.specs.Tests.{slot}
+use Rattle.forcing.specs.Values.{Decided, Agrees, Completes}
+
+-- ---- one value set
+
+-- setting a value frees none
+pub free-set-le : (values : List ℕ) (p x : ℕ) → x ≤ 1 → freeCount (set values p x) ≤ freeCount values
+unfolding freeCount
+free-set-le [] p x l = omega arith
+free-set-le (y ∷ values) zero x l = simp (le-ltb 1 x l) (omega arith)
+free-set-le (y ∷ values) (suc p) x l = omega (arith, free-set-le values p x l)
+
+-- setting a free one leaves one fewer
+pub free-set-lt : (values : List ℕ) (p x : ℕ) → 1 < getD values p 0 → x ≤ 1 → freeCount (set values p x) < freeCount values
+free-set-lt values p x h l = omega (arith, free-set values p x h (suc-le-suc l))
+
+-- who agrees, and has the value there, agrees still
+pub agrees-set : (values m : List ℕ) (p x : ℕ) → Agrees values m → getD m p 0 ≡ x → Agrees (set values p x) m
+agrees-set [] m p x a e i h = a i h
+agrees-set (y ∷ values) m zero x a e zero h = e
+agrees-set (y ∷ values) m zero x a e (suc i) h = a (suc i) h
+agrees-set (y ∷ values) m (suc p) x a e zero h = a zero h
+agrees-set (y ∷ values) [] (suc p) x a e (suc i) h = agrees-set values [] p x (λ j. a (suc j)) e i h
+agrees-set (y ∷ values) (z ∷ m) (suc p) x a e (suc i) h = agrees-set values m p x (λ j. a (suc j)) e i h
+
+-- no value is free where none of those that there are is
+pub all-decided : (values : List ℕ) → ((i : ℕ) → i < length values → getD values i 0 < 2) → Decided values
+all-decided [] h i = zero-lt-suc 1
+all-decided (x ∷ values) h zero = h 0 (zero-lt-suc (length values))
+all-decided (x ∷ values) h (suc i) = all-decided values (λ j l. h (suc j) (suc-le-suc l)) i
+
+-- ---- the values that a search starts from
+
+-- the first n places are free, and what is not free is 0
+abbrev pub Opens : ℕ → List ℕ → Type 0
+Opens n values = (i : ℕ) → getD values i 0 < 2 → (n ≤ i) × (getD values i 0 ≡ 0)
+
+opens-on : (n k : ℕ) → Opens n (replicate n 2 ++ replicate k 0)
+opens-on zero k i h = (zero-le, zeros-at k i)
+opens-on (suc n) k zero h = absurd (let b : ⊥ = omega arith in b)
+opens-on (suc n) k (suc i) h = let o = opens-on n k i h in (suc-le-suc (o .0), o .1)
+
+pub opens : (n : ℕ) (values : List ℕ) → values ≡ opening n → Opens n values
+opens n values e = rw e (opens-on n (variablesMost - n))
+
+-- ---- free values become 0
+
+-- below place i none is free, and what is not free stays
+pub record Completing (values model : List ℕ) (i : ℕ) : Type 0 where
+  pub upto : i ≤ 64
+  pub size : length model ≡ 64
+  pub done : (j : ℕ) → j < i → getD model j 0 < 2
+  pub agrees : Agrees values model
+
+pub completing-starts : (values : List ℕ) → length values ≡ 64 → Completing values values 0
+completing-starts values n = record { upto = zero-le; size = n; done = λ j l. absurd (not-suc-le-zero l); agrees = λ j h. refl }
+
+module _ (values model : List ℕ) (i : ℕ) (at : Completing values model i) (l : i < 64) where
+  -- the value at i is 0 or 1
+  pub completing-skips : getD model i 0 < 2 → Completing values model (i + 1)
+  completing-skips h = record {
+    upto = omega arith;
+    size = at .size;
+    done = λ j k. by-cases (ℕ-discrete j i) (λ e. rw e h) (λ n. at .done j (omega arith));
+    agrees = at .agrees;
+  }
+
+  -- the value at i is free
+  pub completing-sets : 2 ≤ getD model i 0 → Completing values (set model i 0) (i + 1)
+  completing-sets h = record {
+    upto = omega arith;
+    size = length-set model i 0 ∙ at .size;
+    done = λ j k. by-cases (ℕ-discrete j i) (λ e. rw e (omega (arith, getD-set-same model i 0 0 (omega (arith, at .size)))))
+        (λ n. rw (getD-set-other model i j 0 0 n) (at .done j (omega arith)));
+    agrees = λ j k.
+        let same = at .agrees j k in
+        let other : j ≢ i = λ e. let b : ⊥ = omega (arith, same, subst (λ (x : ℕ). 2 ≤ getD model x 0) (sym e) h) in b in
+        getD-set-other model i j 0 0 other ∙ same;
+  }
+
+pub completing-done : (values model : List ℕ) (i : ℕ) → Completing values model i → 64 ≤ i → Completes values model
+completing-done values model i at l = record {
+  size = at .size;
+  decided = all-decided model (λ j k. at .done j (omega (arith, at .size)));
+  agrees = at .agrees;
+}
+
+-- ---- the lowest free variable
+
+module _ (values : List ℕ) (n : length values ≡ 64) (v : ℕ) (e : v ≡ lowestFree values + 1) where
+  -- its negation is a literal to choose
+  pub lowest-chosen : v ≤ 64 → 1 < getD values (slot (128 + v)) 0
+  lowest-chosen l =
+      let s : slot (128 + v) ≡ lowestFree values = omega arith in
+      rw s (⊎-elim (λ h. h .free) (λ h. absurd (let b : ⊥ = omega (arith, h .1) in b)) (lowest-cases values))
+
+  pub none-free : 64 < v → Decided values
+  none-free l = ⊎-elim (λ h. absurd (let b : ⊥ = omega (arith, h .inside) in b)) (λ h. h .0) (lowest-cases values)

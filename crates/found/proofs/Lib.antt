@@ -1,0 +1,2 @@
+-- The laws behind the functions over found sets.
+mod FoundLaws

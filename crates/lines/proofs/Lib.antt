@@ -1,0 +1,4 @@
+-- The laws of the lines.
+
+-- the lines, stored one after the other
+pub mod Stored

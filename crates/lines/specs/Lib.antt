@@ -1,0 +1,2 @@
+-- The lines that are put out.
+pub mod Lines

@@ -1,0 +1,2 @@
+-- What a set does to the members of a given list.
+pub mod Members

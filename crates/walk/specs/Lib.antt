@@ -1,0 +1,2 @@
+-- What the walk promises.
+pub mod Walking
