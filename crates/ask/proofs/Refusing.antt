@@ -8,7 +8,7 @@ use native.Mathlib.Omega.{arith}
 use borrow.Author.Tests.{lt-ltb, le-ltb, ltb-false, not-false}
 use lib.Dec.{ltb}
 use lib.ListN.{length}
-use Rattle.sets.proofs.Deciding.{neither}
+use Rattle.numbers.proofs.Deciding.{neither}
 use Rattle.setups.specs.declared.Refusal.the-variants.{Vars, Size, Literal, Tail, Long, Room}
 use Rattle.setups.specs.Limits.{variablesMost, hardBytesMost, assumedMost}
 use Rattle.setups.specs.Refusals.{numberOf, noModel, check, noLiteral, noClauseByte, firstPlace, offends, ended, long}

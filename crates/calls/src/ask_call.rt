@@ -1,7 +1,5 @@
 // A call of Ask, `A count clauses assumed budget modelroom`, and its answer, `A number visits model`.
 use crate::answers;
-use crate::answers::Outcome;
-use crate::answers::Output;
 use crate::fields;
 use crate::places::BYTES_MOST;
 use crate::places::OLD_BYTE;
@@ -18,17 +16,17 @@ fn asked(line: &[u8], model: &mut [u8]) -> Asked {
     ask::ask(count, clauses, assumed, budget, model)
 }
 
-fn outcome_of(asked: Asked) -> Outcome {
+fn write_outcome(asked: Asked) {
     match asked {
-        Asked::Model(visits) => Outcome::new(setups::FINISHED, visits as u64),
-        Asked::None(visits) => Outcome::new(setups::NO_MODEL, visits as u64),
-        Asked::Refused(refusal) => Outcome::refused(refusal),
+        Asked::Model(visits) => answers::write_outcome(setups::FINISHED, visits as u64),
+        Asked::None(visits) => answers::write_outcome(setups::NO_MODEL, visits as u64),
+        Asked::Refused(refusal) => answers::write_refused(refusal),
     }
 }
 
-pub fn answer(line: &[u8], out: &mut Output, at: usize) -> usize {
+pub fn answer(line: &[u8]) {
     let mut places = [OLD_BYTE; BYTES_MOST];
     let model = fields::byte_room(line, 5, &mut places);
-    let asked = asked(line, model);
-    answers::put_filled_bytes(out, at, outcome_of(asked), model)
+    write_outcome(asked(line, model));
+    answers::write_bytes(model);
 }

@@ -22,46 +22,58 @@ pub const SPACE: u8 = b' ';
 // What stands for an empty run.
 pub const EMPTY_RUN: u8 = b'-';
 
+// How many fields a call has after its letter at the most.
+pub const FIELDS_MOST: usize = 5;
+
+// The kinds of a call's fields: a number, a run of bytes, a run of sets, and how many bytes or sets are lent; END where there is no
+// field any more, NO_KIND where there is no call.
+pub type Kinds = [u8; FIELDS_MOST];
+
+pub const NUMBER: u8 = 0;
+
+pub const BYTE_RUN: u8 = 1;
+
+pub const SET_RUN: u8 = 2;
+
+pub const BYTE_ROOM: u8 = 3;
+
+pub const SET_ROOM: u8 = 4;
+
+pub const END: u8 = 5;
+
+pub const NO_KIND: u8 = 6;
+
 // How many values a digit, a byte and a number have, and fifteen digits, after which one more fits 64 bits.
-pub const DIGITS: u64 = digits::DIGITS as u64;
+const DIGITS: u64 = digits::DIGITS as u64;
 
 const BYTES: u64 = 0x100;
 
-const NUMBERS: u64 = 0x1_0000_0000;
+pub const NUMBERS: u64 = 0x1_0000_0000;
 
 const FIFTEEN_DIGITS: u64 = 0x1000_0000_0000_0000;
 
-// What follows the first space; nothing where there is none.
-fn after_space(line: &[u8]) -> &[u8] {
-    let end = find(line, 0, line.len(), SPACE);
-    if end < line.len() {
-        &line[end + 1..]
-    } else {
-        &line[end..]
-    }
-}
-
-// What stands from a field on.
-fn from_field(line: &[u8], index: usize) -> &[u8] {
-    let mut rest = line;
+// Where a field starts; the end of the line where it has none.
+fn start_of(line: &[u8], index: usize) -> usize
+    ensures { λ r. ⌜ r ≤ length (now (line .entry)) ⌝ }
+{
+    let mut start = 0;
     for _ in 0..index {
-        let next = after_space(rest);
-        rest = next;
+        let end = find(line, start, line.len(), SPACE);
+        start = least(end + 1, line.len());
     }
-    rest
+    start
 }
 
 // A field; empty, which no test takes, where the line has none.
 pub fn field(line: &[u8], index: usize) -> &[u8] {
-    let rest = from_field(line, index);
-    let end = find(rest, 0, rest.len(), SPACE);
-    &rest[0..end]
+    let start = start_of(line, index);
+    let end = find(line, start, line.len(), SPACE);
+    &line[start..end]
 }
 
 // No field and no space follows the field.
 fn is_last(line: &[u8], index: usize) -> bool {
-    let rest = from_field(line, index);
-    find(rest, 0, rest.len(), SPACE) == rest.len()
+    find(line, start_of(line, index), line.len(), SPACE) == line.len()
 }
 
 fn all_digits(text: &[u8]) -> bool {
@@ -84,12 +96,9 @@ fn value(text: &[u8], at: usize, digits: usize) -> u64
     value
 }
 
-fn number(field: &[u8]) -> u32 {
-    (value(field, 0, field.len()) % NUMBERS) as u32
-}
-
 pub fn number_of(line: &[u8], index: usize) -> u32 {
-    number(field(line, index))
+    let field = field(line, index);
+    (value(field, 0, field.len()) % NUMBERS) as u32
 }
 
 fn is_number(field: &[u8]) -> bool {
@@ -98,7 +107,7 @@ fn is_number(field: &[u8]) -> bool {
 
 // The field is a number, so much at the most.
 fn is_room(field: &[u8], most: usize) -> bool {
-    is_number(field) && number(field) as usize <= most
+    is_number(field) && value(field, 0, field.len()) <= most as u64
 }
 
 // The field is a run of values of so many digits each, so many at the most.
@@ -114,29 +123,34 @@ fn is_run(field: &[u8], digits: usize, most: usize) -> bool
         && all_digits(field)
 }
 
-// The field is of a kind: `n` is a number, `b` a run of bytes, `s` a run of sets, `B` a room for bytes, `S` a room for sets.
+// The field is of the kind.
 fn is_kind(field: &[u8], kind: u8) -> bool {
     match kind {
-        b'n' => is_number(field),
-        b'b' => is_run(field, BYTE_DIGITS, BYTES_MOST),
-        b's' => is_run(field, SET_DIGITS, SETS_MOST),
-        b'B' => is_room(field, BYTES_MOST),
-        _ => is_room(field, SETS_MOST),
+        NUMBER => is_number(field),
+        BYTE_RUN => is_run(field, BYTE_DIGITS, BYTES_MOST),
+        SET_RUN => is_run(field, SET_DIGITS, SETS_MOST),
+        BYTE_ROOM => is_room(field, BYTES_MOST),
+        SET_ROOM => is_room(field, SETS_MOST),
+        _ => false,
     }
 }
 
-// The fields after the letter are of these kinds, and no more follow.
-pub fn are_kinds(line: &[u8], kinds: &[u8]) -> bool {
-    for i in 0..kinds.len() {
-        if !is_kind(field(line, i + 1), kinds[i]) {
+// The fields after the letter are of the kinds, and no more follow.
+pub fn are_kinds(line: &[u8], kinds: Kinds) -> bool {
+    for i in 0..FIELDS_MOST {
+        let kind = kinds[i];
+        if kind == END {
+            return is_last(line, i);
+        }
+        if !is_kind(field(line, i + 1), kind) {
             return false;
         }
     }
-    is_last(line, kinds.len())
+    is_last(line, FIELDS_MOST)
 }
 
 // The tests let no count through that is above the places; with the lesser of the two the readers rely on no test.
-fn least(a: usize, b: usize) -> usize
+pub fn least(a: usize, b: usize) -> usize
     ensures { λ r. ⌜ (r ≤ a) × (r ≤ b) ⌝ }
 {
     if a < b { a } else { b }

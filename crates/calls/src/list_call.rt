@@ -1,7 +1,5 @@
 // A call of List, `L count hard soft room scratchroom`, and its answer, `L number filled list scratch`.
 use crate::answers;
-use crate::answers::Outcome;
-use crate::answers::Output;
 use crate::fields;
 use crate::places::BYTES_MOST;
 use crate::places::OLD_BYTE;
@@ -20,19 +18,20 @@ fn listing(line: &[u8], ways_out: &mut [Set], scratch: &mut [Set]) -> Listing {
     list::list(count, hard, soft, ways_out, scratch)
 }
 
-fn outcome_of(listing: Listing) -> Outcome {
+fn write_outcome(listing: Listing) {
     match listing {
-        Listing::Listed(filled) => Outcome::new(setups::FINISHED, filled as u64),
-        Listing::Unmet => Outcome::new(setups::UNMET, 0),
-        Listing::Refused(refusal) => Outcome::refused(refusal),
+        Listing::Listed(filled) => answers::write_outcome(setups::FINISHED, filled as u64),
+        Listing::Unmet => answers::write_outcome(setups::UNMET, 0),
+        Listing::Refused(refusal) => answers::write_refused(refusal),
     }
 }
 
-pub fn answer(line: &[u8], out: &mut Output, at: usize) -> usize {
+pub fn answer(line: &[u8]) {
     let mut list_places = [OLD_SET; SETS_MOST];
     let mut scratch_places = [OLD_SET; SETS_MOST];
     let ways_out = fields::set_room(line, 4, &mut list_places);
     let scratch = fields::set_room(line, 5, &mut scratch_places);
-    let listing = listing(line, ways_out, scratch);
-    answers::put_listed(out, at, outcome_of(listing), ways_out, scratch)
+    write_outcome(listing(line, ways_out, scratch));
+    answers::write_sets(ways_out);
+    answers::write_sets(scratch);
 }

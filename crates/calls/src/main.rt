@@ -10,10 +10,17 @@ mod read_call;
 mod turn_call;
 mod write_call;
 
-use answers::Output;
-use answers::put;
-use answers::write_out;
+use answers::write_byte;
 use bytes::scan::find;
+use fields::BYTE_ROOM;
+use fields::BYTE_RUN;
+use fields::END;
+use fields::FIELDS_MOST;
+use fields::Kinds;
+use fields::NO_KIND;
+use fields::NUMBER;
+use fields::SET_ROOM;
+use fields::SET_RUN;
 use frames::LINE_FEED;
 use libc::STDIN_FILENO;
 
@@ -25,61 +32,57 @@ type Input = [u8; INPUT_MOST];
 // The answer to a line that is no call.
 const NO_CALL: u8 = b'?';
 
-// The fields are those of a call of the letter, each of its kind.
-fn is_call(line: &[u8], letter: u8) -> bool {
+// The kinds of the fields of a letter's call.
+fn kinds(letter: u8) -> Kinds {
     match letter {
-        b'A' => fields::are_kinds(line, b"nbbnB"),
-        b'L' => fields::are_kinds(line, b"nbbSS"),
-        b'T' => fields::are_kinds(line, b"nsSS"),
-        b'M' => fields::are_kinds(line, b"nsB"),
-        b'R' => fields::are_kinds(line, b"bBB"),
-        b'W' => fields::are_kinds(line, b"nbbB"),
-        _ => false,
+        b'A' => [NUMBER, BYTE_RUN, BYTE_RUN, NUMBER, BYTE_ROOM],
+        b'L' => [NUMBER, BYTE_RUN, BYTE_RUN, SET_ROOM, SET_ROOM],
+        b'T' => [NUMBER, SET_RUN, SET_ROOM, SET_ROOM, END],
+        b'M' => [NUMBER, SET_RUN, BYTE_ROOM, END, END],
+        b'R' => [BYTE_RUN, BYTE_ROOM, BYTE_ROOM, END, END],
+        b'W' => [NUMBER, BYTE_RUN, BYTE_RUN, BYTE_ROOM, END],
+        _ => [NO_KIND; FIELDS_MOST],
     }
 }
 
 // The letter of a call; NO_CALL where the line is none.
 fn letter(line: &[u8]) -> u8 {
     let first = fields::field(line, 0);
-    if first.len() == 1 && is_call(line, first[0]) {
+    if first.len() == 1 && fields::are_kinds(line, kinds(first[0])) {
         first[0]
     } else {
         NO_CALL
     }
 }
 
-// Puts the line that answers a line: the letter, and what its job answers.
-fn answer(line: &[u8], out: &mut Output, at: usize) -> usize {
+// Writes what answers a line: the letter, and what its job answers.
+fn answer(line: &[u8]) {
     let letter = letter(line);
-    let next = put(out, at, letter);
-    let end = match letter {
-        b'A' => ask_call::answer(line, out, next),
-        b'L' => list_call::answer(line, out, next),
-        b'T' => turn_call::answer(line, out, next),
-        b'M' => mark_call::answer(line, out, next),
-        b'R' => read_call::answer(line, out, next),
-        b'W' => write_call::answer(line, out, next),
-        _ => next,
-    };
-    put(out, end, LINE_FEED)
+    write_byte(letter);
+    match letter {
+        b'A' => ask_call::answer(line),
+        b'L' => list_call::answer(line),
+        b'T' => turn_call::answer(line),
+        b'M' => mark_call::answer(line),
+        b'R' => read_call::answer(line),
+        b'W' => write_call::answer(line),
+        _ => {}
+    }
 }
 
 // Answers the lines of the input in order; what lies after the last line feed is no call.
 fn answer_all(input: &[u8]) {
-    let mut out = io::large_buffer();
-    let mut at = 0;
     let mut start = 0;
-    let mut end = find(input, start, input.len(), LINE_FEED);
-    while end < input.len() {
-        at = answer(&input[start..end], &mut out, at);
+    while start < input.len() {
+        let end = find(input, start, input.len(), LINE_FEED);
+        if end < input.len() {
+            answer(&input[start..end]);
+        } else {
+            write_byte(NO_CALL);
+        }
+        write_byte(LINE_FEED);
         start = end + 1;
-        end = find(input, start, input.len(), LINE_FEED);
     }
-    if start < input.len() {
-        at = put(&mut out, at, NO_CALL);
-        at = put(&mut out, at, LINE_FEED);
-    }
-    write_out(&out, at);
 }
 
 // Reads standard input to its end and answers it.

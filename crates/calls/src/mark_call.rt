@@ -1,7 +1,5 @@
 // A call of Mark, `M settings list markroom`, and its answer, `M number filled marks`.
 use crate::answers;
-use crate::answers::Outcome;
-use crate::answers::Output;
 use crate::fields;
 use crate::places::BYTES_MOST;
 use crate::places::OLD_BYTE;
@@ -17,16 +15,16 @@ fn marking(line: &[u8], marks: &mut [u8]) -> Marking {
     mark::mark(settings, given, marks)
 }
 
-fn outcome_of(marking: Marking) -> Outcome {
+fn write_outcome(marking: Marking) {
     match marking {
-        Marking::Marked(filled) => Outcome::new(setups::FINISHED, filled as u64),
-        Marking::Refused(refusal) => Outcome::refused(refusal),
+        Marking::Marked(filled) => answers::write_outcome(setups::FINISHED, filled as u64),
+        Marking::Refused(refusal) => answers::write_refused(refusal),
     }
 }
 
-pub fn answer(line: &[u8], out: &mut Output, at: usize) -> usize {
+pub fn answer(line: &[u8]) {
     let mut places = [OLD_BYTE; BYTES_MOST];
     let marks = fields::byte_room(line, 3, &mut places);
-    let marking = marking(line, marks);
-    answers::put_filled_bytes(out, at, outcome_of(marking), marks)
+    write_outcome(marking(line, marks));
+    answers::write_bytes(marks);
 }

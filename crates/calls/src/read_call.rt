@@ -1,6 +1,5 @@
 // A call of Read, `R text hardroom softroom`, and its answer, `R number count hardfilled softfilled hard soft`.
 use crate::answers;
-use crate::answers::Output;
 use crate::fields;
 use crate::places::BYTES_MOST;
 use crate::places::OLD_BYTE;
@@ -13,49 +12,30 @@ fn reading(line: &[u8], hard: &mut [u8], soft: &mut [u8]) -> Reading {
     read::read(text, hard, soft)
 }
 
-// What an answer begins with after its letter: the number, the variables' count, and how many places of each buffer were filled.
-struct Counts {
-    number: u8,
-    count: u32,
-    hard: usize,
-    soft: usize,
+// Writes what the answer begins with: the outcome, whose count is the variables', and how many places of each buffer were filled.
+fn write_counts(number: u8, count: u32, hard: usize, soft: usize) {
+    answers::write_outcome(number, count as u64);
+    answers::write_number(hard as u64);
+    answers::write_number(soft as u64);
 }
 
-fn counts_of(reading: Reading) -> Counts {
+fn write_outcome(reading: Reading) {
     match reading {
         Reading::Read {
             count,
             hard_filled,
             soft_filled,
-        } => Counts {
-            number: setups::FINISHED,
-            count,
-            hard: hard_filled,
-            soft: soft_filled,
-        },
-        Reading::Refused(refusal) => Counts {
-            number: setups::refusal_number(refusal),
-            count: 0,
-            hard: 0,
-            soft: 0,
-        },
+        } => write_counts(setups::FINISHED, count, hard_filled, soft_filled),
+        Reading::Refused(refusal) => write_counts(setups::refusal_number(refusal), 0, 0, 0),
     }
 }
 
-fn put_counts(out: &mut Output, at: usize, counts: Counts) -> usize {
-    let after_number = answers::put_number(out, at, counts.number as u64);
-    let after_count = answers::put_number(out, after_number, counts.count as u64);
-    let after_hard = answers::put_number(out, after_count, counts.hard as u64);
-    answers::put_number(out, after_hard, counts.soft as u64)
-}
-
-pub fn answer(line: &[u8], out: &mut Output, at: usize) -> usize {
+pub fn answer(line: &[u8]) {
     let mut hard_places = [OLD_BYTE; BYTES_MOST];
     let mut soft_places = [OLD_BYTE; BYTES_MOST];
     let hard = fields::byte_room(line, 2, &mut hard_places);
     let soft = fields::byte_room(line, 3, &mut soft_places);
-    let reading = reading(line, hard, soft);
-    let after_counts = put_counts(out, at, counts_of(reading));
-    let after_hard = answers::put_bytes(out, after_counts, hard);
-    answers::put_bytes(out, after_hard, soft)
+    write_outcome(reading(line, hard, soft));
+    answers::write_bytes(hard);
+    answers::write_bytes(soft);
 }

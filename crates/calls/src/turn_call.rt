@@ -1,7 +1,5 @@
 // A call of Turn, `T settings list room scratchroom`, and its answer, `T number filled list scratch`.
 use crate::answers;
-use crate::answers::Outcome;
-use crate::answers::Output;
 use crate::fields;
 use crate::places::OLD_SET;
 use crate::places::SETS_MOST;
@@ -16,18 +14,19 @@ fn turning(line: &[u8], turned: &mut [Set], scratch: &mut [Set]) -> Turning {
     turn::turn(settings, given, turned, scratch)
 }
 
-fn outcome_of(turning: Turning) -> Outcome {
+fn write_outcome(turning: Turning) {
     match turning {
-        Turning::Listed(filled) => Outcome::new(setups::FINISHED, filled as u64),
-        Turning::Refused(refusal) => Outcome::refused(refusal),
+        Turning::Listed(filled) => answers::write_outcome(setups::FINISHED, filled as u64),
+        Turning::Refused(refusal) => answers::write_refused(refusal),
     }
 }
 
-pub fn answer(line: &[u8], out: &mut Output, at: usize) -> usize {
+pub fn answer(line: &[u8]) {
     let mut list_places = [OLD_SET; SETS_MOST];
     let mut scratch_places = [OLD_SET; SETS_MOST];
     let turned = fields::set_room(line, 3, &mut list_places);
     let scratch = fields::set_room(line, 4, &mut scratch_places);
-    let turning = turning(line, turned, scratch);
-    answers::put_listed(out, at, outcome_of(turning), turned, scratch)
+    write_outcome(turning(line, turned, scratch));
+    answers::write_sets(turned);
+    answers::write_sets(scratch);
 }

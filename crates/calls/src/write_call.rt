@@ -1,7 +1,5 @@
 // A call of Write, `W count hard soft textroom`, and its answer, `W number filled text`.
 use crate::answers;
-use crate::answers::Outcome;
-use crate::answers::Output;
 use crate::fields;
 use crate::places::BYTES_MOST;
 use crate::places::OLD_BYTE;
@@ -17,16 +15,16 @@ fn writing(line: &[u8], text: &mut [u8]) -> Writing {
     write::write(count, hard, soft, text)
 }
 
-fn outcome_of(writing: Writing) -> Outcome {
+fn write_outcome(writing: Writing) {
     match writing {
-        Writing::Written(filled) => Outcome::new(setups::FINISHED, filled as u64),
-        Writing::Refused(refusal) => Outcome::refused(refusal),
+        Writing::Written(filled) => answers::write_outcome(setups::FINISHED, filled as u64),
+        Writing::Refused(refusal) => answers::write_refused(refusal),
     }
 }
 
-pub fn answer(line: &[u8], out: &mut Output, at: usize) -> usize {
+pub fn answer(line: &[u8]) {
     let mut places = [OLD_BYTE; BYTES_MOST];
     let text = fields::byte_room(line, 4, &mut places);
-    let writing = writing(line, text);
-    answers::put_filled_bytes(out, at, outcome_of(writing), text)
+    write_outcome(writing(line, text));
+    answers::write_bytes(text);
 }

@@ -11,7 +11,7 @@ use native.Mathlib.Omega.{arith}
 use borrow.Author.Tests.{lt-ltb, le-ltb, le-leb, lt-leb}
 use lib.Dec.{leb, leb→le}
 use lib.Seq.{sets}
-use Rattle.sets.proofs.Deciding.{cond-case, and-right, T-true}
+use Rattle.numbers.proofs.Deciding.{cond-case, and-right, T-true}
 use Rattle.digits.specs.Digits.{between, numeral, letter, isDigit, digitValue, digitOf, byteOf, digits, bytesOf}
 
 -- ---- which bytes are digits

@@ -9,7 +9,7 @@ use native.Mathlib.Omega.{arith}
 use lib.Dec.{T, ltb, lt→ltb}
 use lib.ListN.{length, getD, drop}
 use Rattle.sets.specs.Sets.{In}
-use Rattle.sets.proofs.Deciding.{T-true, and-both}
+use Rattle.numbers.proofs.Deciding.{T-true, and-both}
 use Rattle.sets.proofs.Digits.{in-below}
 use Rattle.setups.specs.Limits.{settingsMost}
 use Rattle.setups.specs.Clauses.{clauses}

@@ -10,7 +10,7 @@ use lib.Dec.{T}
 use lib.ListN.{length, getD, drop}
 use Rattle.numbers.proofs.Places.{front}
 use Rattle.sets.specs.Sets.{In, Share, Joins, only}
-use Rattle.sets.proofs.Deciding.{T-true}
+use Rattle.numbers.proofs.Deciding.{T-true}
 use Rattle.sets.proofs.Digits.{in-below, share-only, only-in}
 use Rattle.setups.specs.Limits.{settingsMost}
 use Rattle.setups.specs.Clauses.{clauses}

@@ -8,7 +8,7 @@ use native.Mathlib.Omega.{arith}
 use borrow.Author.Tests.{eqb-true, eqb-false, eq-eqb, ltb-true, ltb-false}
 use lib.Dec.{T, eqb, ltb, eqb→eq}
 use lib.ListN.{getD, set}
-use Rattle.sets.proofs.Deciding.{cond-case, bool-case}
+use Rattle.numbers.proofs.Deciding.{cond-case, bool-case}
 use Rattle.setups.specs.Clauses.{wish}
 use Rattle.setups.specs.Searching.{freeCount, more, seeValue}
 use Rattle.setups.specs.declared.Seen.{Seen}

@@ -9,7 +9,7 @@ use lib.Dec.{T, ltb, ltb→lt, lt→ltb}
 use lib.ListN.{length, getD, drop}
 use Rattle.sets.specs.Sets.{In}
 use Rattle.sets.specs.Tests.{has}
-use Rattle.sets.proofs.Deciding.{and-iff, T-equal}
+use Rattle.numbers.proofs.Deciding.{and-iff, T-equal}
 use Rattle.sets.proofs.Digits.{none-in}
 use Rattle.sets.proofs.Tests.{has-in, in-has}
 use Rattle.setups.specs.Limits.{settingsMost}

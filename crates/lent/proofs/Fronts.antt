@@ -14,7 +14,7 @@ use Rattle.sets.specs.Sets.{Within}
 use Rattle.sets.specs.Lists.{Listed}
 use Rattle.sets.specs.Turns.{Fine}
 use Rattle.sets.specs.Tests.{fine}
-use Rattle.sets.proofs.Deciding.{T-true, T-false}
+use Rattle.numbers.proofs.Deciding.{T-true, T-false}
 use Rattle.sets.proofs.Tests.{fine-iff}
 use Rattle.sets.proofs.Digits.{within-le, in-below, full-in}
 use Rattle.lent.specs.Leads.{Leads}

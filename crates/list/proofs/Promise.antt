@@ -9,7 +9,7 @@ use lib.Dec.{ltb, eqb}
 use lib.ListN.{length, drop}
 use lib.Seq.{take-append-seam, drop-append-seam}
 use borrow.Author.Tests.{eqb-true, eqb-false, ltb-true, ltb-false}
-use Rattle.sets.proofs.Deciding.{T-equal, T-true, T-false, cond-case}
+use Rattle.numbers.proofs.Deciding.{T-equal, T-true, T-false, cond-case}
 use Rattle.sets.proofs.Lists.{exactly-unique}
 use Rattle.setups.specs.declared.Refusal.the-variants.{TooMany}
 use Rattle.setups.specs.Refusals.{numberOf, finished, unmet}

@@ -8,7 +8,7 @@ use native.Mathlib.Omega.{arith}
 use lib.ListN.{length, getD, drop, drop-of-length-le}
 use Rattle.sets.specs.Sets.{In, Share, only}
 use Rattle.sets.specs.Tests.{has, all}
-use Rattle.sets.proofs.Deciding.{T-true, T-equal}
+use Rattle.numbers.proofs.Deciding.{T-true, T-equal}
 use Rattle.sets.proofs.Digits.{share-only}
 use Rattle.sets.proofs.Tests.{has-in, in-has}
 use Rattle.numbers.proofs.Places.{front}

@@ -1,4 +1,6 @@
--- The laws of lists by place, which the loops of every crate lean on.
+-- The laws that every crate leans on.
 
 -- one place more, read, filled or copied
 pub mod Places
+-- tests and decisions
+pub mod Deciding

@@ -9,7 +9,7 @@ use native.Mathlib.Omega.{arith}
 use lib.Dec.{T, eqb, ltb, lt→ltb}
 use lib.ListN.{length, getD}
 use Rattle.sets.specs.Lists.{Listed}
-use Rattle.sets.proofs.Deciding.{and-iff}
+use Rattle.numbers.proofs.Deciding.{and-iff}
 use Rattle.sets.proofs.Lists.{listed-place}
 use Rattle.setups.specs.Limits.{settingsMost}
 use Rattle.setups.specs.Clauses.{clauses, LiteralOf, place, wish, literalTrue, clauseTrue, allTrue}

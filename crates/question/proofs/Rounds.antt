@@ -7,7 +7,7 @@ use Prim.Native.Nat.{ℕ, _+_, _-_, _*_, _^_, _≤_, _<_, min}
 use native.Mathlib.Omega.{arith}
 use lib.Dec.{T, ltb}
 use Rattle.sets.specs.Sets.{In, Within}
-use Rattle.sets.proofs.Deciding.{and-right}
+use Rattle.numbers.proofs.Deciding.{and-right}
 use Rattle.sets.proofs.Digits.{in-below, within-le, within-trans, within-self}
 use Rattle.sets.proofs.Tests.{has-in}
 use Rattle.setups.specs.Limits.{settingsMost}

@@ -9,7 +9,7 @@ use native.Mathlib.Decide.{decLt}
 use native.Mathlib.Omega.{arith}
 use lib.Dec.{T, eqb, ltb, eqb→eq, eqb-refl, lt→ltb}
 use lib.ListN.{length, getD}
-use Rattle.sets.proofs.Deciding.{and-left, and-right, and-both, or-left, or-right, or-cases}
+use Rattle.numbers.proofs.Deciding.{and-left, and-right, and-both, or-left, or-right, or-cases}
 use Rattle.setups.specs.Limits.{settingsMost}
 use Rattle.setups.specs.Clauses.{wish}
 use Rattle.setups.specs.Setups.{settings}

@@ -7,7 +7,7 @@ use Prim.Native.Nat.{ℕ, _<_}
 use native.Mathlib.Decide.{ℕ-discrete}
 use native.Mathlib.Omega.{arith}
 use Rattle.sets.specs.Sets.{Share}
-use Rattle.sets.proofs.Deciding.{stable}
+use Rattle.numbers.proofs.Deciding.{stable}
 use Rattle.sets.proofs.Digits.{none-share}
 use Rattle.setups.specs.Setups.{Setup, setup, Together}
 use Rattle.setups.proofs.Tests.{together-iff}

@@ -6,7 +6,7 @@ use native.Mathlib.Omega.{arith}
 use borrow.Author.Tests.{eqb-true, eqb-false}
 use lib.Dec.{ltb, eqb}
 use lib.ListN.{length, drop, length-append}
-use Rattle.sets.proofs.Deciding.{cond-case}
+use Rattle.numbers.proofs.Deciding.{cond-case}
 use Rattle.setups.specs.Limits.{settingsMost}
 use Rattle.setups.specs.Setups.{settings}
 use Rattle.setups.specs.Refusals.{finished}

@@ -11,7 +11,7 @@ use lib.Dec.{ltb, leb, eqb}
 use lib.ListN.{length, drop}
 use lib.Seq.{take-at}
 use Rattle.sets.specs.Tests.{fine}
-use Rattle.sets.proofs.Deciding.{cond-case}
+use Rattle.numbers.proofs.Deciding.{cond-case}
 use Rattle.setups.specs.declared.Refusal.the-variants.{Size, Work, Softs, Frame, Room, List as NotAList}
 use Rattle.setups.specs.Limits.{hardBytesMost, softBytesMost, setsMost, settingsMost}
 use Rattle.setups.specs.Setups.{Setup, setup, count, Together}

@@ -8,7 +8,7 @@ use native.Mathlib.Nat.{add-zero, zero-add, add-assoc}
 use native.Mathlib.Omega.{arith}
 use lib.ListN.{length, getD, drop, drop-of-length-le}
 use Rattle.numbers.proofs.Places.{front}
-use Rattle.sets.proofs.Deciding.{bool-case, cond-case}
+use Rattle.numbers.proofs.Deciding.{bool-case, cond-case}
 use Rattle.setups.specs.declared.Seen.{Seen}
 use Rattle.setups.specs.declared.Seen.the-variants.{AllFalse, OneFree, Enough}
 use Rattle.setups.specs.Clauses.{push, clauses}

@@ -14,7 +14,7 @@ use lib.Dec.{T, lit<}
 use borrow.Author.Tests.{lt-ltb, le-leb, lt-leb}
 use Rattle.sets.specs.Sets.{digit, In, Within, Share, Joins, Leaves, only}
 use Rattle.sets.specs.Tests.{has}
-use Rattle.sets.proofs.Deciding.{T-true, any, dec-and, dec-not, dec-iff, stable, cond-case}
+use Rattle.numbers.proofs.Deciding.{T-true, any, dec-and, dec-not, dec-iff, stable, cond-case}
 
 -- ---- digits
 

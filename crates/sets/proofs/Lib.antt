@@ -1,7 +1,5 @@
 -- The laws of sets of settings and of lists of them, and the proofs of the functions.
 
--- tests and decisions
-pub mod Deciding
 -- the algebra of sets, digit by digit, with no width
 pub mod Digits
 -- sets of one setting at the most

@@ -9,7 +9,7 @@ use native.Mathlib.Omega.{arith}
 use lib.ListN.{length, getD}
 use Rattle.sets.specs.Sets.{Within, Smallest}
 use Rattle.sets.specs.Lists.{Listed, Rising, Exactly}
-use Rattle.sets.proofs.Deciding.{any, dec-and, dec-not, dec-iff}
+use Rattle.numbers.proofs.Deciding.{any, dec-and, dec-not, dec-iff}
 use Rattle.sets.proofs.Digits.{within-le, within-dec}
 
 -- ---- members

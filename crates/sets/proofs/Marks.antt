@@ -12,7 +12,7 @@ use Rattle.sets.specs.Sets.{In}
 use Rattle.sets.specs.Lists.{Listed}
 use Rattle.sets.specs.Tests.{has, all}
 use Rattle.sets.specs.Marks.{kept, lost, open′, mark, marksFrom, marks}
-use Rattle.sets.proofs.Deciding.{T-true, T-false, dec-not, stable}
+use Rattle.numbers.proofs.Deciding.{T-true, T-false, dec-not, stable}
 use Rattle.sets.proofs.Digits.{in-dec}
 use Rattle.sets.proofs.Lists.{some-dec}
 use Rattle.sets.proofs.Tests.{has-in, in-has, lacks-iff, all-at, at-all}

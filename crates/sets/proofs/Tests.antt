@@ -12,8 +12,8 @@ use Rattle.sets.specs.Sets.{digit, In, Within}
 use Rattle.sets.specs.Lists.{Listed, Rising, Apart, Exactly}
 use Rattle.sets.specs.Turns.{Fine}
 use Rattle.sets.specs.Tests.{has, every, all, within, climbs, rises, apart, fine}
-use Rattle.sets.proofs.Deciding.{and-left, and-right, and-both, and-iff, not-iff, or-left, or-right, or-cases}
-use Rattle.sets.proofs.Deciding.{implies-use, implies-make}
+use Rattle.numbers.proofs.Deciding.{and-left, and-right, and-both, and-iff, not-iff, or-left, or-right, or-cases}
+use Rattle.numbers.proofs.Deciding.{implies-use, implies-make}
 use Rattle.sets.proofs.Digits.{in-below}
 
 -- ---- settings

@@ -8,7 +8,7 @@ use lib.Pow.{pow-pos}
 use Rattle.sets.specs.Sets.{Within, Share, Smallest}
 use Rattle.sets.specs.Lists.{Listed}
 use Rattle.sets.specs.Turns.{Crosses, SmallestCross, Fine, Turned}
-use Rattle.sets.proofs.Deciding.{dec-and, dec-not, dec-iff, stable}
+use Rattle.numbers.proofs.Deciding.{dec-and, dec-not, dec-iff, stable}
 use Rattle.sets.proofs.Digits.{within-antisym, within-self, within-trans, within-none, none-within, within-dec}
 use Rattle.sets.proofs.Digits.{none-share, share-sym, share-dec}
 use Rattle.sets.proofs.Lists.{exactly-unique, some-dec, exists, smallest-dec}

@@ -12,7 +12,7 @@ use borrow.Author.Tests.{ltb-true, ltb-false, lt-ltb, le-ltb, eq-eqb, ne-eqb, le
 use lib.Dec.{T, eqb, leb, ltb, leb·suc-suc, ltb→lt, lt→ltb}
 use lib.ListN.{length, getD, drop, drop-of-length-le}
 use Rattle.numbers.proofs.Places.{front}
-use Rattle.sets.proofs.Deciding.{T-true, T-equal, bool-case, cond-case}
+use Rattle.numbers.proofs.Deciding.{T-true, T-equal, bool-case, cond-case}
 use Rattle.setups.specs.Limits.{literalsMost}
 use Rattle.setups.specs.Clauses.{push, clauses}
 use Rattle.setups.specs.Setups.{apiece, settings}

@@ -10,7 +10,7 @@ use lib.Pow.{pow-pos}
 use Rattle.sets.specs.Sets.{Smallest}
 use Rattle.sets.specs.Lists.{Listed, Exactly}
 use Rattle.sets.specs.Turns.{SmallestCross, Turned}
-use Rattle.sets.proofs.Deciding.{dec-and, dec-iff, stable}
+use Rattle.numbers.proofs.Deciding.{dec-and, dec-iff, stable}
 use Rattle.sets.proofs.Digits.{in-dec, none-in, none-within, within-le, within-none, within-out, out-within, out-differs, missing}
 use Rattle.sets.proofs.Digits.{other, other-lt, other-in, other-out}
 use Rattle.sets.proofs.Dual.{Up, Dual, across, back, cross-iff}

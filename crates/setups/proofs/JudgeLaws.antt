@@ -7,7 +7,7 @@ use native.Mathlib.Omega.{arith}
 use borrow.Author.Tests.{lt-ltb, le-ltb, ltb-false, leb-false, not-false}
 use lib.Dec.{ltb, leb}
 use lib.ListN.{length}
-use Rattle.sets.proofs.Deciding.{neither}
+use Rattle.numbers.proofs.Deciding.{neither}
 use Rattle.setups.specs.declared.Refusal.{Refusal}
 use Rattle.setups.specs.declared.Refusal.the-variants.{Vars, Size, Work, Literal, Tail, Long, Softs}
 use Rattle.setups.specs.Limits.{variablesMost, hardBytesMost, softBytesMost, setsMost, settingsMost}

@@ -8,7 +8,7 @@ use native.Mathlib.Omega.{arith}
 use borrow.Author.Tests.{eqb-false, ltb-false, eq-eqb, ne-eqb}
 use lib.Dec.{eqb, ltb}
 use lib.ListN.{length, getD}
-use Rattle.sets.proofs.Deciding.{neither}
+use Rattle.numbers.proofs.Deciding.{neither}
 use Rattle.setups.specs.Limits.{variablesMost}
 use Rattle.setups.specs.Clauses.{LiteralOf, place}
 use Rattle.setups.specs.Refusals.{noLiteral, noClauseByte, offends}

@@ -8,7 +8,7 @@ use native.Mathlib.Omega.{arith}
 use lib.Dec.{T}
 use lib.ListN.{length, getD, set, replicate, length-replicate, getD-replicate, List·getD-eq-default}
 use lib.Seq.{getD-set-same, ext-getD}
-use Rattle.sets.proofs.Deciding.{and-left, and-right, and-both, or-left, or-right, or-cases}
+use Rattle.numbers.proofs.Deciding.{and-left, and-right, and-both, or-left, or-right, or-cases}
 use Rattle.setups.specs.Clauses.{Assigns, place, literalTrue, clauseTrue, allTrue}
 use Rattle.setups.specs.Settling.{isFree, isFalse, allFalse, broken, Settles}
 use Rattle.setups.specs.Search.{Found, Model, None, after, Lowest, Visit, visit-fails, visit-models, split-low, split-high}

@@ -10,7 +10,7 @@ use lib.Dec.{T, ltb, eqb}
 use lib.ListN.{length, getD, set}
 use borrow.Author.Tests.{eqb-true, eqb-false, ltb-true, ltb-false, lt-ltb, le-ltb}
 use Rattle.sets.specs.Lists.{Listed}
-use Rattle.sets.proofs.Deciding.{or-left, or-right, or-cases, cond-case}
+use Rattle.numbers.proofs.Deciding.{or-left, or-right, or-cases, cond-case}
 use Rattle.setups.specs.declared.Seen.{Seen}
 use Rattle.setups.specs.declared.Seen.the-variants.{AllFalse, OneFree, Enough}
 use Rattle.setups.specs.Clauses.{Among, place, wish, literalTrue}

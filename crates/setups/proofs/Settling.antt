@@ -10,7 +10,7 @@ use lib.Dec.{T, ltb, T-not, not-T, ltb→lt, lt→ltb, nltb→le, eqb→eq, eqb-
 use lib.ListN.{length, getD, set, length-set}
 use lib.Seq.{getD-set-same, getD-set-other, ext-getD}
 use Rattle.sets.specs.Lists.{Listed}
-use Rattle.sets.proofs.Deciding.{and-left, and-right, and-both, or-left, or-right, or-cases, T-dec, cond-case}
+use Rattle.numbers.proofs.Deciding.{and-left, and-right, and-both, or-left, or-right, or-cases, T-dec, cond-case}
 use Rattle.setups.specs.Clauses.{Among, place, wish, literalTrue}
 use Rattle.setups.specs.Settling.{isFree, isFalse, allFalse, broken, Forces, put, Forced, Steps, no-step, step-on, Settles}
 use Rattle.setups.specs.Meaning.{Alike}

@@ -10,7 +10,7 @@ use lib.Dec.{T, T-not, not-T, ltb, ltb→lt, lt→ltb}
 use lib.ListN.{length, getD}
 use Rattle.sets.specs.Sets.{In, Within}
 use Rattle.sets.specs.Tests.{has, every}
-use Rattle.sets.proofs.Deciding.{and-left, and-right, and-both, or-left, or-right, or-cases, implies-use, implies-make, T-dec, dec-iff}
+use Rattle.numbers.proofs.Deciding.{and-left, and-right, and-both, or-left, or-right, or-cases, implies-use, implies-make, T-dec, dec-iff}
 use Rattle.sets.proofs.Tests.{has-in, in-has, every-at, at-every}
 use Rattle.sets.proofs.Digits.{in-below, out-within, out-differs, within-out, missing}
 use Rattle.setups.specs.Clauses.{clauses, Assigns, allTrue}

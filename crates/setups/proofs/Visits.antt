@@ -9,7 +9,7 @@ use native.Mathlib.Omega.{arith}
 use lib.Dec.{T, ltb}
 use lib.ListN.{length, set}
 use borrow.Author.Tests.{lt-ltb, le-ltb}
-use Rattle.sets.proofs.Deciding.{T-dec}
+use Rattle.numbers.proofs.Deciding.{T-dec}
 use Rattle.setups.specs.declared.Seen.{Seen}
 use Rattle.setups.specs.declared.Seen.the-variants.{AllFalse, OneFree, Enough}
 use Rattle.setups.specs.Settling.{broken, put, Forced, no-step, step-on, Settles}

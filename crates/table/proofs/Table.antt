@@ -6,7 +6,7 @@ use Prim.Native.Nat.{ℕ, _^_}
 use lib.Dec.{T, T-not}
 use lib.ListN.{length}
 use Rattle.sets.specs.Lists.{Exactly}
-use Rattle.sets.proofs.Deciding.{and-left, and-right}
+use Rattle.numbers.proofs.Deciding.{and-left, and-right}
 use Rattle.sets.proofs.Tests.{lists, lists-exactly}
 use Rattle.sets.proofs.Turning.{turn-exists}
 use Rattle.setups.specs.Setups.{Setup, setup, count, WayOut, Clash}

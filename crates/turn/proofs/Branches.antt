@@ -5,7 +5,7 @@ use mathlib.Core.List.{List}
 use Prim.Native.Nat.{ℕ, _-_, _^_}
 use native.Mathlib.Decide.{ℕ-discrete}
 use Rattle.sets.specs.Sets.{In, Within, Share}
-use Rattle.sets.proofs.Deciding.{stable}
+use Rattle.numbers.proofs.Deciding.{stable}
 use Rattle.sets.proofs.Digits.{none-in, within-self, missing, share-dec, out-in, out-within}
 use Rattle.members.specs.Members.{Hits, Alone, Own, Waits}
 use Rattle.turn.specs.Branches.{Branch, TurnsOn}

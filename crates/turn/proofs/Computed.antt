@@ -10,7 +10,7 @@ use Rattle.sets.specs.Sets.{In, Within, Share}
 use Rattle.sets.specs.Lists.{Listed}
 use Rattle.sets.specs.Turns.{Crosses, SmallestCross, Turned}
 use Rattle.sets.specs.Tests.{has, every, all}
-use Rattle.sets.proofs.Deciding.{and-left, and-right, and-both, implies-use, implies-make, stable}
+use Rattle.numbers.proofs.Deciding.{and-left, and-right, and-both, implies-use, implies-make, stable}
 use Rattle.sets.proofs.Digits.{in-below, missing, share-dec, out-in, out-within, within-out}
 use Rattle.sets.proofs.Tests.{has-in, in-has, lacks-iff, every-at, at-every, all-at, at-all, lists, lists-exactly}
 use Rattle.members.specs.Members.{Hits}

@@ -12,7 +12,7 @@ use lib.Seq.{take-at}
 use Rattle.sets.specs.Lists.{Exactly}
 use Rattle.sets.specs.Tests.{fine}
 use Rattle.sets.specs.Turns.{Fine, Turned}
-use Rattle.sets.proofs.Deciding.{T-true, T-false, cond-case}
+use Rattle.numbers.proofs.Deciding.{T-true, T-false, cond-case}
 use Rattle.sets.proofs.Tests.{fine-iff}
 use Rattle.setups.specs.Limits.{setsMost, settingsMost}
 use Rattle.setups.specs.Setups.{setup, Together, WayOut}

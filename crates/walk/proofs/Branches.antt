@@ -12,7 +12,7 @@ use lib.ListN.{getD}
 use lib.Pow.{pow-pos}
 use Rattle.sets.specs.Sets.{digit, In, Within, Smallest}
 use Rattle.sets.specs.Lists.{Listed}
-use Rattle.sets.proofs.Deciding.{T-dec, any, dec-and, dec-not, stable}
+use Rattle.numbers.proofs.Deciding.{T-dec, any, dec-and, dec-not, stable}
 use Rattle.sets.proofs.Digits.{in-dec, in-below, digit-out, within-le, out-stays, out-within, out-differs, opposite-digit, those, those-lt, those-in, digit-up, high-digit, high-in}
 use Rattle.sets.proofs.Dual.{smallest-within}
 use Rattle.setups.specs.Clauses.{allTrue}

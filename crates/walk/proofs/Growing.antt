@@ -7,7 +7,7 @@ use native.Mathlib.Decide.{decLe, decLt}
 use native.Mathlib.Numerals.{add-one}
 use native.Mathlib.Omega.{arith}
 use Rattle.sets.specs.Lists.{Exactly}
-use Rattle.sets.proofs.Deciding.{dec-and, dec-iff}
+use Rattle.numbers.proofs.Deciding.{dec-and, dec-iff}
 use Rattle.sets.proofs.Lists.{exactly-unique, exactly-next, exactly-skip, listed-append, rising-append, exists}
 use Rattle.setups.specs.Setups.{Setup, WayOut}
 use Rattle.setups.proofs.Tests.{way-out-dec}

@@ -10,7 +10,7 @@ use native.Mathlib.Omega.{arith}
 use lib.ListN.{length, getD, drop, set, length-append, length-drop, drop-of-length-le}
 use lib.Seq.{sets, drop-drop, drop-nil}
 use Rattle.numbers.proofs.Places.{front}
-use Rattle.sets.proofs.Deciding.{T-true}
+use Rattle.numbers.proofs.Deciding.{T-true}
 use Rattle.setups.specs.Clauses.{push, clauses}
 use Rattle.setups.specs.Refusals.{ended}
 use Rattle.setups.proofs.Truth.{literal-goes-on}

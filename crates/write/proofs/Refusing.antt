@@ -7,7 +7,7 @@ use borrow.Author.Tests.{lt-ltb, le-ltb, ltb-false, eqb-true, ne-eqb}
 use lib.Dec.{ltb, eqb}
 use lib.ListN.{length, drop}
 use lib.Seq.{sets}
-use Rattle.sets.proofs.Deciding.{cond-case, neither}
+use Rattle.numbers.proofs.Deciding.{cond-case, neither}
 use Rattle.setups.specs.declared.Refusal.{Refusal}
 use Rattle.setups.specs.declared.Refusal.the-variants.{Vars, Size, Room}
 use Rattle.setups.specs.Limits.{variablesMost, hardBytesMost, softBytesMost}

@@ -11,7 +11,7 @@ use lib.Dec.{eqb, ltb, leb}
 use lib.ListN.{length, take, drop}
 use lib.Seq.{take-at}
 use Rattle.sets.specs.Tests.{all}
-use Rattle.sets.proofs.Deciding.{cond-case, neither, T-true}
+use Rattle.numbers.proofs.Deciding.{cond-case, neither, T-true}
 use Rattle.setups.specs.Limits.{literalsMost}
 use Rattle.setups.specs.Clauses.{push, clauses}
 use Rattle.setups.specs.Refusals.{finished, ended, someLong}

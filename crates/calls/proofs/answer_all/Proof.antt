@@ -1,5 +1,5 @@
--- `answer_all` is safe and ends. A line lies within the input; the measure is what is left of the input.
-use Prim.Native.Nat.{_≤_, _-_}
+-- `answer_all` is safe and ends. Nothing has to hold from turn to turn; the measure is what is left of the input.
+use Prim.Native.Nat.{_-_}
 use native.Mathlib.Omega.{arith}
 use borrow.Author.Needs.{needs}
 use lib.ListN.{length}
@@ -7,10 +7,10 @@ use Rattle.calls.proofs.answer_all.Statement.{statement}
 use Rattle.calls.proofs.answer_all.Tie as tie
 
 abbrev Inv-loop : tie.InvT-loop
-Inv-loop input out₀ at₀ start₀ end₀ out at start end = (start ≤ end) × (end ≤ length input)
+Inv-loop input start₀ start = Unit {0}
 
 abbrev μ-loop : tie.MeasureT-loop
-μ-loop input out₀ at₀ start₀ end₀ out at start end = length input - start
+μ-loop input start₀ start = length input - start
 
 pub answer-all-spec : {M : Type 1} → statement M
 answer-all-spec =
@@ -18,18 +18,15 @@ answer-all-spec =
     (tie.spec
     Inv-loop
     μ-loop
-    (λ c κs. tt)
-    (λ c κs. search needs)
-    (λ c. search needs)
-    (λ c. omega arith)
-    (λ c. omega arith)
-    (λ c. omega arith)
-    (λ c κs. tt)
-    (λ c. omega arith)
+    (λ c. tt)
     (λ c κs. search needs)
     (λ c. omega arith)
-    (λ c. search needs)
+    (λ c. omega arith)
+    (λ c. omega arith)
     (λ c κs. tt)
     (λ c κs. tt)
     (λ c κs. tt)
+    (λ c. omega arith)
+    (λ c. omega arith)
+    (λ c. tt)
     (λ c. tt))

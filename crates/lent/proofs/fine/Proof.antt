@@ -7,7 +7,7 @@ use borrow.Author.Tests.{not-true, not-false}
 use lib.ListN.{length, getD, drop, drop-of-length-le}
 use Rattle.sets.specs.Sets.{Within}
 use Rattle.sets.specs.Turns.{Fine}
-use Rattle.sets.proofs.Deciding.{refuted}
+use Rattle.numbers.proofs.Deciding.{refuted}
 use Rattle.lent.proofs.Fronts.{part-rest, passed, fine-at, fine-none, within-count, fine-true, fine-false}
 use Rattle.lent.proofs.fine.Statement.{statement}
 use Rattle.lent.proofs.fine.Tie as tie

@@ -3,7 +3,7 @@ use mathlib.Core.Logic.{_↔_}
 use Prim.Native.Nat.{_≤_, _-_}
 use native.Mathlib.Omega.{arith}
 use lib.ListN.{length, drop, drop-of-length-le}
-use Rattle.sets.proofs.Deciding.{refuted}
+use Rattle.numbers.proofs.Deciding.{refuted}
 use Rattle.lent.specs.Leads.{Leads}
 use Rattle.lent.proofs.Fronts.{answers-true, answers-false, passed, leads-none, leads-at}
 use Rattle.lent.proofs.leads.Statement.{statement}

@@ -1,7 +1,7 @@
 -- `members::alone` meets its contract: what the member and the taken settings have in common is one setting at the most, or several.
 use borrow.Author.Needs.{needs}
 use Rattle.members.proofs.Members.{alone-one, alone-several}
-use Rattle.sets.proofs.Deciding.{refuted}
+use Rattle.numbers.proofs.Deciding.{refuted}
 use Rattle.members.proofs.alone.Statement.{statement}
 use Rattle.members.proofs.alone.Tie as tie
 

@@ -3,7 +3,7 @@ use Prim.Native.Nat.{ℕ, suc, _-_, _≤_}
 use native.Mathlib.Omega.{arith}
 use borrow.Author.Tests.{not-true, not-false}
 use Rattle.sets.specs.Sets.{In}
-use Rattle.sets.proofs.Deciding.{refuted}
+use Rattle.numbers.proofs.Deciding.{refuted}
 use Rattle.members.proofs.Lowest.{later, some-place}
 use Rattle.members.proofs.choose.Statement.{statement}
 use Rattle.members.proofs.choose.Tie as tie

@@ -6,7 +6,7 @@ use native.Mathlib.Omega.{arith}
 use borrow.Author.Tests.{not-true, not-false}
 use lib.Bits.{bitAnd}
 use lib.ListN.{length, getD}
-use Rattle.sets.proofs.Deciding.{refuted}
+use Rattle.numbers.proofs.Deciding.{refuted}
 use Rattle.members.proofs.Members.{UnhitSoFar, unhit-start, hit-next, waits-here, waits-next, all-hit, one-waits}
 use Rattle.members.proofs.find_unhit.Statement.{statement}
 use Rattle.members.proofs.find_unhit.Tie as tie

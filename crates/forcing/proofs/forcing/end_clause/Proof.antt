@@ -1,7 +1,7 @@
 -- `forcing::end_clause` meets its contract, by cases on the clause that ends.
 use borrow.Author.Needs.{needs}
 use borrow.Author.Tests.{not-false}
-use Rattle.sets.proofs.Deciding.{T-true}
+use Rattle.numbers.proofs.Deciding.{T-true}
 use Rattle.forcing.proofs.StepLaws.{step-none, ends-false, ends-one}
 use Rattle.forcing.proofs.forcing.end_clause.Statement.{statement}
 use Rattle.forcing.proofs.forcing.end_clause.Tie as tie

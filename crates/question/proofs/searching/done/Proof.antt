@@ -2,7 +2,7 @@
 use mathlib.Core.Path.{sym, _∙_}
 use mathlib.Core.Bool.{true≢false, false≢true}
 use borrow.Author.Needs.{needs}
-use Rattle.sets.proofs.Deciding.{T-true}
+use Rattle.numbers.proofs.Deciding.{T-true}
 use Rattle.question.proofs.searching.done.Statement.{statement}
 use Rattle.question.proofs.searching.done.Tie as tie
 
