@@ -26,7 +26,7 @@ pub fn write_byte(byte: u8) {
     io::write_all(STDOUT_FILENO, &text);
 }
 
-// Writes a run's field up to its end; what stands for an empty run where it is the space alone.
+// Writes a run's field up to its end, which is at most RUN_MOST; what stands for an empty run where it is the space alone.
 fn write_run(field: &[u8; RUN_MOST], end: usize)
     requires { ⌜ end ≤ 80001 ⌝ }
 {
