@@ -31,16 +31,17 @@ answer-length outcome ways clashes =
 
 -- the lines of an answer, one after the other
 pub answer-stored : (outcome : ℕ) (ways clashes t t₁ t₂ t₃ : List ℕ) (j k : ℕ)
-    → t₁ ≡ sets t 0 (setLines wayOutKind ways) → j ≡ 0 + length (setLines wayOutKind ways)
-    → t₂ ≡ sets t₁ j (setLines clashKind clashes) → k ≡ j + length (setLines clashKind clashes)
+    → t₁ ≡ sets t 0 (setLines wayOutKind ways) → j ≡ 0 + 11 * length ways
+    → t₂ ≡ sets t₁ j (setLines clashKind clashes) → k ≡ j + 11 * length clashes
     → t₃ ≡ sets t₂ k (lastLine outcome (length ways) (length clashes))
     → t₃ ≡ sets t 0 (answerLines outcome ways clashes)
 answer-stored outcome ways clashes t t₁ t₂ t₃ j k e ij f jk g =
     let a = setLines wayOutKind ways in
     let b = setLines clashKind clashes in
     let c = lastLine outcome (length ways) (length clashes) in
-    let size : k ≡ 0 + length (a ++ b) = omega (arith, ij, jk, length-append a b) in
-    let both : t₂ ≡ sets t 0 (a ++ b) = f ∙ rw (e, ij) (sym (sets-append t a b 0)) in
+    let first : j ≡ 0 + length a = omega (arith, ij, lines-length wayOutKind ways) in
+    let size : k ≡ 0 + length (a ++ b) = omega (arith, first, jk, length-append a b, lines-length clashKind clashes) in
+    let both : t₂ ≡ sets t 0 (a ++ b) = f ∙ rw (e, first) (sym (sets-append t a b 0)) in
     g ∙ rw (both, size) (sym (sets-append t (a ++ b) c 0))
 
 -- two bytes written one after the other are the digits of the number

@@ -4,7 +4,7 @@ use digits::put_set;
 use frames::LINE_FEED;
 use sets::Set;
 ghost use mathlib.Core.Path.{_≡_};
-ghost use Prim.Native.Nat.{_+_, _<_, _≤_};
+ghost use Prim.Native.Nat.{_+_, _*_, _<_, _≤_};
 ghost use lib.ListN.{length};
 ghost use lib.Seq.{sets};
 ghost use Rattle.digits.specs.Digits.{digits, bytesOf};
@@ -50,8 +50,8 @@ pub fn put_line(output: &mut [u8], at: usize, kind: u8, set: Set)
 
 // Puts a line for each set of a list, and tells the place after them.
 fn put_lines(output: &mut [u8], at: usize, kind: u8, list: &[Set]) -> usize
-    requires { ⌜ at + length (setLines kind (now list)) ≤ length (now output) ⌝ }
-    ensures { λ r. ⌜ (r ≡ at + length (setLines kind (now (list .entry)))) × (now (output .exit) ≡ sets (now (output .entry)) at (setLines kind (now (list .entry)))) ⌝ }
+    requires { ⌜ at + 11 * length (now list) ≤ length (now output) ⌝ }
+    ensures { λ r. ⌜ (r ≡ at + 11 * length (now (list .entry))) × (now (output .exit) ≡ sets (now (output .entry)) at (setLines kind (now (list .entry)))) ⌝ }
 {
     let mut to = at;
     let mut i = 0;

@@ -6,7 +6,7 @@ use native.Mathlib.Omega.{arith}
 use lib.ListN.{length, drop}
 use lib.Seq.{sets}
 use Rattle.lines.specs.Lines.{setLines}
-use Rattle.lines.proofs.Stored.{line-takes, one-stored, none-left}
+use Rattle.lines.proofs.Stored.{lines-length, line-takes, one-stored, none-left}
 use Rattle.lines.proofs.put_lines.Statement.{statement}
 use Rattle.lines.proofs.put_lines.Tie as tie
 
@@ -27,10 +27,10 @@ shared-slice-read-put-line : tie.Need-shared-slice-read-put-line Inv-loop μ-loo
 shared-slice-read-put-line c = c .before .before .loop-test .taken
 
 put-line-requires : tie.Need-put-line-requires Inv-loop μ-loop
-put-line-requires c κs = omega (arith, line-takes (c .before .before .before .before .before .before .args .list .now) (c .before .before .before .loop .i) (c .before .before .before .before .before .before .args .kind) (c .before .before .loop-test .taken), c .before .before .before .loop .inv .0, c .before .before .before .loop .inv .1, c .before .before .before .before .before .before .pre)
+put-line-requires c κs = omega (arith, lines-length (c .before .before .before .before .before .before .args .kind) (c .before .before .before .before .before .before .args .list .now), line-takes (c .before .before .before .before .before .before .args .list .now) (c .before .before .before .loop .i) (c .before .before .before .before .before .before .args .kind) (c .before .before .loop-test .taken), c .before .before .before .loop .inv .0, c .before .before .before .loop .inv .1, c .before .before .before .before .before .before .pre)
 
 add-to : tie.Need-add-to Inv-loop μ-loop
-add-to c = omega (arith, line-takes (c .before .before .before .before .before .before .before .before .before .args .list .now) (c .before .before .before .before .before .before .loop .i) (c .before .before .before .before .before .before .before .before .before .args .kind) (c .before .before .before .before .before .loop-test .taken), c .before .before .before .before .before .before .loop .inv .0, c .before .before .before .before .before .before .before .before .before .pre, c .before .before .before .before .before .before .before .before .before .good)
+add-to c = omega (arith, lines-length (c .before .before .before .before .before .before .before .before .before .args .kind) (c .before .before .before .before .before .before .before .before .before .args .list .now), line-takes (c .before .before .before .before .before .before .before .before .before .args .list .now) (c .before .before .before .before .before .before .loop .i) (c .before .before .before .before .before .before .before .before .before .args .kind) (c .before .before .before .before .before .loop-test .taken), c .before .before .before .before .before .before .loop .inv .0, c .before .before .before .before .before .before .before .before .before .pre, c .before .before .before .before .before .before .before .before .before .good)
 
 add-i : tie.Need-add-i Inv-loop μ-loop
 add-i c = omega (arith, c .before .before .before .before .before .loop-test .taken, c .before .before .before .before .before .before .before .before .before .good)
@@ -45,7 +45,7 @@ same-length : tie.Need-same-length Inv-loop μ-loop
 same-length c = c .before .loop .inv .1
 
 returns : tie.Need-returns Inv-loop μ-loop
-returns c = (omega (arith, c .before .loop .inv .0, ap length (none-left (c .before .before .before .before .args .list .now) (c .before .loop .i) (c .before .before .before .before .args .kind) (c .loop-test .left))), ap (λ (l : List ℕ). sets (c .before .loop .output) (c .before .loop .to) l) (sym (none-left (c .before .before .before .before .args .list .now) (c .before .loop .i) (c .before .before .before .before .args .kind) (c .loop-test .left))) ∙ c .before .loop .inv .2)
+returns c = (omega (arith, lines-length (c .before .before .before .before .args .kind) (c .before .before .before .before .args .list .now), c .before .loop .inv .0, ap length (none-left (c .before .before .before .before .args .list .now) (c .before .loop .i) (c .before .before .before .before .args .kind) (c .loop-test .left))), ap (λ (l : List ℕ). sets (c .before .loop .output) (c .before .loop .to) l) (sym (none-left (c .before .before .before .before .args .list .now) (c .before .loop .i) (c .before .before .before .before .args .kind) (c .loop-test .left))) ∙ c .before .loop .inv .2)
 
 pub put-lines-spec : {M : Type 1} → statement M
 put-lines-spec =
