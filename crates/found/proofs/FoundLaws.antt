@@ -11,7 +11,7 @@ use lib.Bits.{bitAnd, bitOr}
 use lib.Dec.{T}
 use lib.ListN.{length, getD}
 use Rattle.sets.specs.Sets.{In, Within, Share, AtMostOne}
-use Rattle.sets.specs.Lists.{Listed}
+use Rattle.sets.specs.Lists.{Among}
 use Rattle.sets.specs.Tests.{has}
 use Rattle.sets.proofs.Digits.{none-in, and-in, or-joins}
 use Rattle.sets.proofs.Lists.{place-listed, listed-place}
@@ -104,7 +104,7 @@ module _ (kept sure : ℕ) (found : List ℕ) where
     pub fitting-done : length found ≤ i → Fit kept found (has sure)
     fitting-done l = record { keeps = λ j h. in-has sure j (at .keeps j h); each = one }
       where
-        one : (W : ℕ) → Listed W found → One W (has sure)
+        one : (W : ℕ) → Among W found → One W (has sure)
         one W h =
             let place = listed-place found W h in
             let s = at .each (place .0) (omega (arith, place .1)) in

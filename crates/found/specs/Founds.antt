@@ -5,7 +5,7 @@ use mathlib.Core.List.{List}
 use Prim.Native.Nat.{ℕ}
 use lib.Dec.{T}
 use Rattle.sets.specs.Sets.{In, Within}
-use Rattle.sets.specs.Lists.{Listed}
+use Rattle.sets.specs.Lists.{Among}
 use Rattle.sets.specs.Tests.{has}
 use Rattle.found.specs.declared.Narrowed.{Narrowed}
 
@@ -24,7 +24,7 @@ example-one = (2, refl, tt)
 -- each kept setting passes, and of each found set one setting
 pub record Fit (kept : ℕ) (found : List ℕ) (test : ℕ → Bool) : Type 0 where
   pub keeps : Each kept test
-  pub each : (W : ℕ) → Listed W found → One W test
+  pub each : (W : ℕ) → Among W found → One W test
 
 -- r has the kept settings, and nothing besides that need not pass where they do and one of those left does
 pub record KeepsLast (kept left r : ℕ) : Type 0 where

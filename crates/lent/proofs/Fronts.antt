@@ -11,7 +11,7 @@ use lib.Seq.{take-all}
 use lib.Pow.{pow-pos, pow-mono}
 use Rattle.numbers.proofs.Places.{front}
 use Rattle.sets.specs.Sets.{Within}
-use Rattle.sets.specs.Lists.{Listed}
+use Rattle.sets.specs.Lists.{Among}
 use Rattle.sets.specs.Turns.{Fine}
 use Rattle.sets.specs.Tests.{fine}
 use Rattle.numbers.proofs.Deciding.{T-true, T-false}
@@ -74,7 +74,7 @@ fine-front n S list = (to, from)
       apart = pair;
     }
       where
-        pair : (A B : ℕ) → Listed A (S ∷ list) → Listed B (S ∷ list) → Within A B → A ≡ B
+        pair : (A B : ℕ) → Among A (S ∷ list) → Among B (S ∷ list) → Within A B → A ≡ B
         pair A B (inl a) (inl b) w = a ∙ sym b
         pair A B (inl a) (inr b) w = absurd (f .1 B b .1 (rw a at w))
         pair A B (inr a) (inl b) w = let l = f .1 A a .0 in absurd (let z : ⊥ = omega (arith, within-le A B w) in z)

@@ -7,11 +7,11 @@ use Prim.Native.Nat.{ℕ, _<_}
 use native.Mathlib.Omega.{arith}
 use lib.Dec.{lit<}
 use Rattle.sets.specs.Sets.{Within}
-use Rattle.sets.specs.Lists.{Listed}
+use Rattle.sets.specs.Lists.{Among}
 
 -- S is below each of the others and lies within none of them
 abbrev pub Leads : ℕ → List ℕ → Type 0
-Leads S others = (R : ℕ) → Listed R others → (S < R) × ¬ Within S R
+Leads S others = (R : ℕ) → Among R others → (S < R) × ¬ Within S R
 
 -- 3 leads 5: it is below 5, which lacks its second setting
 example-leads : Leads 3 (5 ∷ [])

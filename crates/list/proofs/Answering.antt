@@ -10,7 +10,7 @@ use Rattle.setups.specs.declared.Refusal.{Refusal}
 use Rattle.setups.specs.Refusals.{numberOf}
 use Rattle.setups.specs.Setups.{setup}
 use Rattle.setups.specs.Tests.{together}
-use Rattle.setups.specs.List.{without-list, zeroed, listRefusal, Lists}
+use Rattle.setups.specs.List.{without-list, zeroed, listRefusal, ListGives}
 use Rattle.setups.proofs.Tests.{together-iff}
 use Rattle.setups.proofs.Refusals.{refused-number}
 use Rattle.setups.proofs.Duality.{ways-out-exist}
@@ -25,7 +25,7 @@ all-cleared scratch held zeros same e =
 
 module _ (n : ℕ) (hard soft list scratch : List ℕ) where
   -- a refusal before the search writes nothing
-  pub refused : (r : Refusal) → listRefusal n hard soft (length list) (length scratch) ≡ numberOf r → Lists n hard soft list scratch (without-list (numberOf r) list scratch)
+  pub refused : (r : Refusal) → listRefusal n hard soft (length list) (length scratch) ≡ numberOf r → ListGives n hard soft list scratch (without-list (numberOf r) list scratch)
   refused r e =
       let ways = ways-out-exist (setup n hard soft) in
       record {
@@ -38,5 +38,5 @@ module _ (n : ℕ) (hard soft list scratch : List ℕ) where
 
   -- the list is given out and the scratch is zero
   pub given-out : listRefusal n hard soft (length list) (length scratch) ≡ 0 → {found places after : List ℕ} {answer : Listing} → GivesOut (setup n hard soft) list found answer after places
-      → {zeros : List ℕ} → zeros ≡ zeroed scratch → Lists n hard soft list scratch (answered answer after zeros)
+      → {zeros : List ℕ} → zeros ≡ zeroed scratch → ListGives n hard soft list scratch (answered answer after zeros)
   given-out e h z = record { ways = h .ways; exact = h .exact; met = h .met; meets = h .meets; says = rw (e, z) (h .says scratch) }

@@ -14,7 +14,7 @@ use Rattle.sets.proofs.Lists.{exactly-unique}
 use Rattle.setups.specs.declared.Refusal.the-variants.{TooMany}
 use Rattle.setups.specs.Refusals.{numberOf, finished, unmet}
 use Rattle.setups.specs.Setups.{Setup, setup, Together, WayOut}
-use Rattle.setups.specs.List.{ListResult, without-list, zeroed, givenOut, listRefusal, Lists}
+use Rattle.setups.specs.List.{ListResult, without-list, zeroed, givenOut, listRefusal, ListGives}
 use Rattle.setups.proofs.Refusals.{number-only, refused-number, refused-not-unmet}
 use Rattle.setups.proofs.JudgeLaws.{list-most}
 use Rattle.list.specs.declared.Listing.{Listing}
@@ -25,7 +25,7 @@ use Rattle.list.specs.Meaning.{Means}
 -- ---- no second result
 
 -- the promise has one result
-pub result-only : (n : ℕ) (hard soft list scratch : List ℕ) (r s : ListResult) → Lists n hard soft list scratch r → Lists n hard soft list scratch s → r ≡ s
+pub result-only : (n : ℕ) (hard soft list scratch : List ℕ) (r s : ListResult) → ListGives n hard soft list scratch r → ListGives n hard soft list scratch s → r ≡ s
 result-only n hard soft list scratch r s p q = p .says ∙ rw (ways, met) (sym (q .says))
   where
     ways : p .ways ≡ q .ways
@@ -61,7 +61,7 @@ scratch-so (Refused a) after zeros = refl
 
 -- so that no second answer, list buffer or scratch meets it
 pub list-only : (n : ℕ) (hard soft list scratch : List ℕ) (answer other : Listing) (after zeros later work : List ℕ)
-    → Lists n hard soft list scratch (answered answer after zeros) → Lists n hard soft list scratch (answered other later work)
+    → ListGives n hard soft list scratch (answered answer after zeros) → ListGives n hard soft list scratch (answered other later work)
     → (answer ≡ other) × (after ≡ later) × (zeros ≡ work)
 list-only n hard soft list scratch answer other after zeros later work p q =
     let e = result-only n hard soft list scratch (answered answer after zeros) (answered other later work) p q in (
@@ -72,7 +72,7 @@ list-only n hard soft list scratch answer other after zeros later work p q =
 
 -- ---- what each answer means
 
-pub list-means : (n : ℕ) (hard soft list scratch : List ℕ) (r : ListResult) → Lists n hard soft list scratch r
+pub list-means : (n : ℕ) (hard soft list scratch : List ℕ) (r : ListResult) → ListGives n hard soft list scratch r
     → Means (setup n hard soft) (listRefusal n hard soft (length list) (length scratch)) list scratch r
 list-means n hard soft list scratch r p = cond-case (λ (x : ListResult). r ≡ x → Meant) (eqb refusal 0) (λ e. searched (eqb-true refusal 0 e)) (λ e. refused (eqb-false refusal 0 e)) (p .says)
   where

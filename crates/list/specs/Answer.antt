@@ -11,7 +11,7 @@ use Rattle.setups.specs.Refusals.{numberOf, finished, unmet}
 use Rattle.setups.specs.Taken.{Taken}
 use Rattle.setups.specs.declared.judging.Judged.{Judged}
 use Rattle.setups.specs.declared.judging.Judged.the-variants.{Taken as Passed, Unfit}
-use Rattle.setups.specs.List.{ListResult, without-list, zeroed, givenOut}
+use Rattle.setups.specs.List.{ListResult, without-list, zeroed, givenOut, ListGives}
 use Rattle.setups.specs.declared.Refusal.the-variants.{TooMany}
 use Rattle.walk.specs.Walking.{over}
 use Rattle.list.specs.declared.Listing.{Listing}
@@ -26,6 +26,11 @@ answered (Refused refusal) list scratch = without-list (numberOf refusal) list s
 -- TooMany is 8, Unmet is 128 (80 in hexadecimal), Listed is 0 and tells how many places it has filled
 example-result : (answered (Refused TooMany) [] [] .number ≡ 8) × (answered Unmet [] [] .number ≡ 128) × (answered (Listed 3) [] [] .filled ≡ 3)
 example-result = (refl, refl, refl)
+
+-- The promise: over n variables, the hard and the soft bytes and the two lent places, the answer leaves `listAfter` and `scratchAfter`
+-- in them.
+abbrev pub Lists : ℕ → List ℕ → List ℕ → List ℕ → List ℕ → Listing → List ℕ → List ℕ → Type 0
+Lists n hard soft list scratch answer listAfter scratchAfter = ListGives n hard soft list scratch (answered answer listAfter scratchAfter)
 
 -- the checks before the search: the first refusal, or the number of settings of a setup that every search takes
 abbrev pub Checks : Setup → ℕ → Judged → Type 0

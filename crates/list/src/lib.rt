@@ -17,8 +17,7 @@ ghost use Prim.Native.Nat.{_+_};
 ghost use lib.ListN.{length};
 ghost use Rattle.setups.specs.Setups.{setup, count as settingsCount};
 ghost use Rattle.setups.specs.Taken.{Taken};
-ghost use Rattle.setups.specs.List.{Lists};
-ghost use Rattle.list.specs.Answer.{GivesOut, answered};
+ghost use Rattle.list.specs.Answer.{GivesOut, Lists};
 
 // What List answers: how many ways out it has listed, that the hard clauses have no model, or why it can't.
 pub enum Listing {
@@ -61,7 +60,7 @@ fn give_out(
 // All ways out, rising. The walk is lent the first room + 1 places of the scratch, and afterwards the whole scratch is zero; a refusal
 // before the search writes nothing.
 pub fn list(count: u32, hard: &[u8], soft: &[u8], list: &mut [Set], scratch: &mut [Set]) -> Listing
-    ensures { λ r. ⌜ Lists count (now (hard .entry)) (now (soft .entry)) (now (list .entry)) (now (scratch .entry)) (answered r (now (list .exit)) (now (scratch .exit))) ⌝ }
+    ensures { λ r. ⌜ Lists count (now (hard .entry)) (now (soft .entry)) (now (list .entry)) (now (scratch .entry)) r (now (list .exit)) (now (scratch .exit)) ⌝ }
 {
     let room = list.len();
     let whole = scratch.len();

@@ -9,7 +9,7 @@ use Rattle.setups.specs.Mark.{MarkResult, markResult}
 use Rattle.setups.proofs.Refusals.{number-only, refused-number}
 use Rattle.mark.specs.declared.Marking.{Marking}
 use Rattle.mark.specs.declared.Marking.the-variants.{Marked, Refused}
-use Rattle.mark.specs.Marking.{answered, Promises}
+use Rattle.mark.specs.Marking.{answered, Marks}
 
 -- one result comes from one answer and one buffer
 answered-only : (answer other : Marking) (after later : List ℕ) → answered answer after ≡ answered other later → (answer ≡ other) × (after ≡ later)
@@ -21,18 +21,18 @@ answered-only (Refused a) (Refused b) after later e =
 
 -- no second result
 pub mark-only : (n : ℕ) (list places : List ℕ) (answer other : Marking) (after later : List ℕ)
-    → Promises n list places answer after → Promises n list places other later → (answer ≡ other) × (after ≡ later)
+    → Marks n list places answer after → Marks n list places other later → (answer ≡ other) × (after ≡ later)
 mark-only n list places answer other after later p q = answered-only answer other after later (p ∙ sym q)
 
 -- ---- rejected, over two settings, the list 1 and a buffer of three places
 
 -- one that refuses everything
-pub mark-not-refused : (refusal : Refusal) (after : List ℕ) → ¬ Promises 2 (1 ∷ []) (0 ∷ 0 ∷ 0 ∷ []) (Refused refusal) after
+pub mark-not-refused : (refusal : Refusal) (after : List ℕ) → ¬ Marks 2 (1 ∷ []) (0 ∷ 0 ∷ 0 ∷ []) (Refused refusal) after
 unfolding markResult
 mark-not-refused refusal after p = refused-number refusal (ap (λ (r : MarkResult). r .number) p)
 
 -- one that writes nothing
-pub mark-not-silent : (answer : Marking) → ¬ Promises 2 (1 ∷ []) (0 ∷ 0 ∷ 0 ∷ []) answer (0 ∷ 0 ∷ 0 ∷ [])
+pub mark-not-silent : (answer : Marking) → ¬ Marks 2 (1 ∷ []) (0 ∷ 0 ∷ 0 ∷ []) answer (0 ∷ 0 ∷ 0 ∷ [])
 unfolding markResult
 mark-not-silent (Marked n) p = omega (arith, ap (λ (r : MarkResult). getD (r .marks) 0 0) p)
 mark-not-silent (Refused refusal) p = mark-not-refused refusal (0 ∷ 0 ∷ 0 ∷ []) p

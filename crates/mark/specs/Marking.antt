@@ -18,5 +18,5 @@ example-answered : answered (Refused Softs) (9 ∷ []) ≡ record { number = 7; 
 example-answered = refl
 
 -- The promise: over n settings, a list and the mark buffer `places`, the answer leaves `after` in that buffer.
-abbrev pub Promises : ℕ → List ℕ → List ℕ → Marking → List ℕ → Type 0
-Promises n list places answer after = answered answer after ≡ markResult n list places
+abbrev pub Marks : ℕ → List ℕ → List ℕ → Marking → List ℕ → Type 0
+Marks n list places answer after = answered answer after ≡ markResult n list places

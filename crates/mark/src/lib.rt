@@ -14,7 +14,7 @@ ghost use Rattle.sets.specs.Tests.{all};
 ghost use Rattle.sets.specs.Marks.{mark as markAt, marks as marksOf};
 ghost use Rattle.setups.specs.Limits.{settingsMost};
 ghost use Rattle.mark.specs.Agreeing.{agrees};
-ghost use Rattle.mark.specs.Marking.{Promises};
+ghost use Rattle.mark.specs.Marking.{Marks};
 
 // What Mark answers: it has marked so many settings, or refuses.
 pub enum Marking {
@@ -72,7 +72,7 @@ fn letters(count: u32, list: &[Set], marks: &mut [u8])
 
 // The letter of each of the first `count` settings over the list.
 pub fn mark(count: u32, list: &[Set], marks: &mut [u8]) -> Marking
-    ensures { λ r. ⌜ Promises count (now (list .entry)) (now (marks .entry)) r (now (marks .exit)) ⌝ }
+    ensures { λ r. ⌜ Marks count (now (list .entry)) (now (marks .entry)) r (now (marks .exit)) ⌝ }
 {
     if SETTINGS_MOST < count {
         return Marking::Refused(Refusal::Softs);

@@ -4,13 +4,13 @@ use mathlib.Core.Logic.{inl, inr, _≢_, _↔_}
 use mathlib.Core.List.{List, [], _∷_}
 use Prim.Native.Nat.{ℕ}
 use Rattle.sets.specs.Sets.{In, Share}
-use Rattle.sets.specs.Lists.{Listed}
+use Rattle.sets.specs.Lists.{Among}
 use Rattle.members.specs.declared.Unhit.{Unhit}
 use Rattle.members.specs.declared.Unhit.the-variants.{Nothing, Lost, Wants}
 
 -- S hits every member: it shares a setting with each
 abbrev pub Hits : List ℕ → ℕ → Type 0
-Hits members S = (M : ℕ) → Listed M members → Share S M
+Hits members S = (M : ℕ) → Among M members → Share S M
 
 -- 6 hits 3 by the setting at place 1, and 5 by the one at place 2
 example-hits : Hits (3 ∷ 5 ∷ []) 6
@@ -26,7 +26,7 @@ pub record Alone (M S i : ℕ) : Type 0 where
 
 -- the setting at place i has a member of its own: one that S hits by this setting alone
 abbrev pub Own : List ℕ → ℕ → ℕ → Type 0
-Own members S i = (M : ℕ) × Listed M members × Alone M S i
+Own members S i = (M : ℕ) × Among M members × Alone M S i
 
 -- Q has the settings that S and R share
 abbrev pub Common : ℕ → ℕ → ℕ → Type 0
@@ -34,7 +34,7 @@ Common S R Q = (i : ℕ) → In i Q ↔ (In i S × In i R)
 
 -- M is a member that the taken settings don't hit; `wanted` are the settings left that would
 pub record Waits (members : List ℕ) (taken left M wanted : ℕ) : Type 0 where
-  pub listed : Listed M members
+  pub listed : Among M members
   pub unhit : ¬ Share taken M
   pub common : Common M left wanted
 

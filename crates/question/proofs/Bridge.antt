@@ -8,7 +8,7 @@ use native.Mathlib.Nat.{not-suc-le-zero, le-of-suc-le-suc, zero-lt-suc, suc-ne-z
 use native.Mathlib.Omega.{arith}
 use lib.Dec.{T, eqb, ltb, lt→ltb}
 use lib.ListN.{length, getD}
-use Rattle.sets.specs.Lists.{Listed}
+use Rattle.sets.specs.Lists.{Among}
 use Rattle.numbers.proofs.Deciding.{and-iff}
 use Rattle.sets.proofs.Lists.{listed-place}
 use Rattle.setups.specs.Limits.{settingsMost}
@@ -43,7 +43,7 @@ setting-truth m (s ∷ ss) (suc i) =
 
 -- ---- two tests that agree on the literals of a buffer
 
-same-verdicts : (test other : ℕ → Bool) (bytes : List ℕ) → ((b : ℕ) → Listed b bytes → b ≢ 0 → test b ≡ other b) → (sofar : Bool)
+same-verdicts : (test other : ℕ → Bool) (bytes : List ℕ) → ((b : ℕ) → Among b bytes → b ≢ 0 → test b ≡ other b) → (sofar : Bool)
     → verdicts test sofar (clauses bytes) ≡ verdicts other sofar (clauses bytes)
 same-verdicts test other [] h sofar = refl
 same-verdicts test other (zero ∷ bytes) h sofar =
@@ -66,7 +66,7 @@ module _ (g : Setup) (taken : Taken g) (m w : List ℕ) (same : (i : ℕ) → i 
       → verdicts (isTrue w) false (clauses bytes) ≡ verdicts (literalTrue m) false (clauses bytes)
   buffer-same bytes fine = same-verdicts (isTrue w) (literalTrue m) bytes each false
     where
-      each : (b : ℕ) → Listed b bytes → b ≢ 0 → isTrue w b ≡ literalTrue m b
+      each : (b : ℕ) → Among b bytes → b ≢ 0 → isTrue w b ≡ literalTrue m b
       each b h n =
           let at = listed-place bytes b h in
           literal-same b (subst (LiteralOf (g .variables)) (at .2)

@@ -7,7 +7,7 @@ use native.Mathlib.Omega.{arith}
 use lib.Dec.{lit<}
 use lib.ListN.{getD}
 use Rattle.sets.specs.Sets.{In}
-use Rattle.sets.specs.Lists.{Listed}
+use Rattle.sets.specs.Lists.{Among}
 use Rattle.setups.specs.Setups.{Setup, setup, count, SettingTrue, Models}
 use Rattle.question.specs.declared.Reply.{Reply}
 use Rattle.question.specs.declared.Reply.the-variants.{Yes, No}
@@ -15,7 +15,7 @@ use Rattle.question.specs.declared.Reply.the-variants.{Yes, No}
 -- m meets the hard clauses, each kept setting, and of each found set one setting
 pub record Meets (g : Setup) (kept : ℕ) (found m : List ℕ) : Type 0 where
   pub models : Models g (λ i. In i kept) m
-  pub each : (W : ℕ) → Listed W found → (i : ℕ) × (i < count g) × In i W × SettingTrue g m i
+  pub each : (W : ℕ) → Among W found → (i : ℕ) × (i < count g) × In i W × SettingTrue g m i
 
 -- m breaks each given-up setting
 abbrev pub Breaks : Setup → ℕ → List ℕ → Type 0

@@ -8,7 +8,7 @@ use native.Mathlib.Omega.{arith}
 use lib.ListN.{length, getD, take}
 use Rattle.setups.specs.Refusals.{finished}
 use Rattle.setups.specs.Setups.{setup}
-use Rattle.setups.specs.List.{ListResult, givenOut, listRefusal, listed, Lists}
+use Rattle.setups.specs.List.{ListResult, givenOut, listRefusal, listed, ListGives}
 use Rattle.setups.specs.Tests.{together}
 use Rattle.setups.proofs.Tests.{together-iff}
 use Rattle.setups.proofs.Duality.{ways-out-exist}
@@ -36,7 +36,7 @@ list-kept = (
 
 -- where a row of the table is taken, it has this one result
 row-result : {n : ℕ} {hard soft ways clashes : List ℕ} → Row (setup n hard soft) ways clashes → (list scratch : List ℕ)
-    → listRefusal n hard soft (length list) (length scratch) ≡ 0 → {r : ListResult} → Lists n hard soft list scratch r → r ≡ givenOut ways list scratch
+    → listRefusal n hard soft (length list) (length scratch) ≡ 0 → {r : ListResult} → ListGives n hard soft list scratch r → r ≡ givenOut ways list scratch
 row-result {n} {hard} {soft} {ways} row list scratch e {r} p =
     result-only n hard soft list scratch r (givenOut ways list scratch) p
     (record { ways = ways; exact = row .ways-out; met = true; meets = ((λ t. row .met), λ t. tt); says = rw e })

@@ -5,7 +5,7 @@ use mathlib.Core.Logic.{_≢_}
 use mathlib.Core.List.{List, [], _∷_}
 use Prim.Native.Nat.{ℕ, _-_, _^_, _<_}
 use Rattle.sets.specs.Sets.{Within, Share}
-use Rattle.sets.specs.Lists.{Listed}
+use Rattle.sets.specs.Lists.{Among}
 use Rattle.setups.specs.Setups.{Setup, count, Together}
 
 -- the oracle may answer with a model whose selectors at 1 are T: all of A are, the settings of T are true, and each block has one of T
@@ -13,7 +13,7 @@ pub record Answers (g : Setup) (A : ℕ) (blocks : List ℕ) (T : ℕ) : Type 0 
   pub below : T < 2 ^ count g
   pub assumed : Within A T
   pub meets : Together g T
-  pub blocked : (W : ℕ) → Listed W blocks → Share T W
+  pub blocked : (W : ℕ) → Among W blocks → Share T W
 
 -- the oracle has no answer
 abbrev pub Fails : Setup → ℕ → List ℕ → Type 0

@@ -7,11 +7,11 @@ use Prim.Native.Nat.{ℕ, zero, suc, _+_, min}
 use lib.Dec.{eqb}
 use lib.ListN.{length, take}
 use Rattle.sets.specs.Sets.{digit}
-use Rattle.sets.specs.Lists.{Listed, Exactly}
+use Rattle.sets.specs.Lists.{Among, Exactly}
 use Rattle.setups.specs.declared.Refusal.{Refusal}
 use Rattle.setups.specs.Refusals.{numberOf, finished}
 use Rattle.setups.specs.Setups.{setup, count, WayOut}
-use Rattle.setups.specs.List.{ListResult, Lists}
+use Rattle.setups.specs.List.{ListResult, ListGives}
 use Rattle.refuted.specs.Enumeration.{Enumerates}
 
 -- the variable count, the hard and the soft bytes, the list buffer and the scratch give a result
@@ -20,7 +20,7 @@ Program = ℕ → List ℕ → List ℕ → List ℕ → List ℕ → ListResult
 
 -- the program keeps List's promise
 abbrev pub Keeps : Program → Type 0
-Keeps P = (n : ℕ) (hard soft list scratch : List ℕ) → Lists n hard soft list scratch (P n hard soft list scratch)
+Keeps P = (n : ℕ) (hard soft list scratch : List ℕ) → ListGives n hard soft list scratch (P n hard soft list scratch)
 
 -- it refuses everything
 abbrev pub RefusesAll : Program → Type 0
@@ -88,4 +88,4 @@ DropsEqual P =
 abbrev pub ListsEnumerated : Program → Type 0
 ListsEnumerated =
     Always (λ n hard soft room filled listed.
-    (out : List ℕ) × Enumerates (setup n hard soft) out × ((S : ℕ) → Listed S listed ↔ Listed S out))
+    (out : List ℕ) × Enumerates (setup n hard soft) out × ((S : ℕ) → Among S listed ↔ Among S out))

@@ -12,8 +12,8 @@ use Rattle.setups.specs.Limits.{setsMost}
 use Rattle.setups.specs.Setups.{setup, count}
 use Rattle.setups.specs.Refusals.{numberOf, finished, unmet}
 use Rattle.setups.specs.Tests.{together}
-use Rattle.setups.specs.List.{ListResult, listedSets, without-list, givenOut, listRefusal, listed, Lists}
-use Rattle.setups.specs.Turn.{turnRefusal, Turns}
+use Rattle.setups.specs.List.{ListResult, listedSets, without-list, givenOut, listRefusal, listed, ListGives}
+use Rattle.setups.specs.Turn.{turnRefusal, TurnGives}
 use Rattle.setups.proofs.Duality.{ways-out-exist}
 use Rattle.setups.proofs.Refusals.{refused-number, refused-not-unmet}
 use Rattle.setups.proofs.Tests.{together-iff}
@@ -31,7 +31,7 @@ use Rattle.resolve.specs.Resolve.{places, scratchPlaces, reading, setupR
 
 -- ---- List and Turn have a result, whatever they are given
 
-pub lists-exist : (n : ℕ) (hard soft list scratch : List ℕ) → (r : ListResult) × Lists n hard soft list scratch r
+pub lists-exist : (n : ℕ) (hard soft list scratch : List ℕ) → (r : ListResult) × ListGives n hard soft list scratch r
 lists-exist n hard soft list scratch =
     let g = setup n hard soft in
     let ways = ways-out-exist g in (
@@ -39,7 +39,7 @@ lists-exist n hard soft list scratch =
       record { ways = ways .0; exact = ways .1; met = together g 0; meets = together-iff g 0; says = refl },
     )
 
-pub turns-exist : (n : ℕ) (given list scratch : List ℕ) → (r : ListResult) × Turns n given list scratch r
+pub turns-exist : (n : ℕ) (given list scratch : List ℕ) → (r : ListResult) × TurnGives n given list scratch r
 turns-exist n given list scratch =
     let turned = turn-exists n given in
     let refusal = turnRefusal n given (length list) (length scratch) in (
@@ -55,7 +55,7 @@ not-finished refusal = ne-eqb (numberOf refusal) finished (refused-number refusa
 not-unmet : (refusal : Refusal) → eqb (numberOf refusal) unmet ≡ false
 not-unmet refusal = ne-eqb (numberOf refusal) unmet (refused-not-unmet refusal)
 
-module _ (n : ℕ) (ways scratch : List ℕ) (answer : Turning) (list′ scratch′ : List ℕ) (p : Turns n ways (places setsMost) scratch (turnAnswered answer list′ scratch′)) where
+module _ (n : ℕ) (ways scratch : List ℕ) (answer : Turning) (list′ scratch′ : List ℕ) (p : TurnGives n ways (places setsMost) scratch (turnAnswered answer list′ scratch′)) where
   pub turn-refused : (refusal : Refusal) (number : ℕ) → answer ≡ TurnRefused refusal → number ≡ numberOf refusal → AnswersTurn n ways scratch (refusalLines number)
   turn-refused refusal number e q = record {
     turned = turnAnswered (TurnRefused refusal) list′ scratch′;
@@ -69,9 +69,9 @@ module _ (n : ℕ) (ways scratch : List ℕ) (answer : Turning) (list′ scratch
 -- ---- after List
 
 module _ (n : ℕ) (hard soft : List ℕ) (answer : Listing) (list′ scratch′ : List ℕ)
-    (p : Lists n hard soft (places setsMost) (places scratchPlaces) (listAnswered answer list′ scratch′)) where
+    (p : ListGives n hard soft (places setsMost) (places scratchPlaces) (listAnswered answer list′ scratch′)) where
   -- where List lists nothing, Turn's result is asked for all the same, and not used
-  without : (found : ListResult) → Lists n hard soft (places setsMost) (places scratchPlaces) found → (lines : List ℕ)
+  without : (found : ListResult) → ListGives n hard soft (places setsMost) (places scratchPlaces) found → (lines : List ℕ)
       → ((turned : ListResult) → lines ≡ listedLines found turned) → Answers (setup n hard soft) lines
   without found q lines says =
       let turned = turns-exist (count (setup n hard soft)) (listedSets found) (places setsMost) (found .scratch) in

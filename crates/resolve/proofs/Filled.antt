@@ -10,8 +10,8 @@ use Rattle.numbers.proofs.Deciding.{cond-case}
 use Rattle.setups.specs.Limits.{settingsMost}
 use Rattle.setups.specs.Setups.{settings}
 use Rattle.setups.specs.Refusals.{finished}
-use Rattle.setups.specs.List.{ListResult, givenOut, listRefusal, Lists}
-use Rattle.setups.specs.Turn.{turnRefusal, Turns}
+use Rattle.setups.specs.List.{ListResult, givenOut, listRefusal, ListGives}
+use Rattle.setups.specs.Turn.{turnRefusal, TurnGives}
 use Rattle.setups.proofs.JudgeLaws.{list-taken}
 use Rattle.list.specs.Answer.{answered as listAnswered}
 use Rattle.list.specs.declared.Listing.{Listing}
@@ -32,18 +32,18 @@ given-fits : (all list scratch : List ℕ) → Fits (givenOut all list scratch)
 given-fits all list scratch =
     cond-case Fits (ltb (length list) (length all)) (λ e. zero-le) (λ e. omega (arith, length-append all (drop (length all) list)))
 
-pub turn-fits : (n : ℕ) (given list scratch : List ℕ) (r : ListResult) → Turns n given list scratch r → r .filled ≤ length (r .list)
+pub turn-fits : (n : ℕ) (given list scratch : List ℕ) (r : ListResult) → TurnGives n given list scratch r → r .filled ≤ length (r .list)
 turn-fits n given list scratch r p =
     subst Fits (sym (p .says)) (cond-case Fits (eqb (turnRefusal n given (length list) (length scratch)) 0) (λ e. given-fits (p .turned) list scratch) (λ e. zero-le))
 
-pub list-fits : (n : ℕ) (hard soft list scratch : List ℕ) (r : ListResult) → Lists n hard soft list scratch r → r .filled ≤ length (r .list)
+pub list-fits : (n : ℕ) (hard soft list scratch : List ℕ) (r : ListResult) → ListGives n hard soft list scratch r → r .filled ≤ length (r .list)
 list-fits n hard soft list scratch r p =
     subst Fits (sym (p .says))
     (cond-case Fits (eqb (listRefusal n hard soft (length list) (length scratch)) 0)
     (λ e. cond-case Fits (p .met) (λ m. given-fits (p .ways) list scratch) (λ m. zero-le)) (λ e. zero-le))
 
 -- List has taken a setup that it lists the ways out of
-pub list-few : (n : ℕ) (hard soft list scratch : List ℕ) (r : ListResult) → Lists n hard soft list scratch r → r .number ≡ finished
+pub list-few : (n : ℕ) (hard soft list scratch : List ℕ) (r : ListResult) → ListGives n hard soft list scratch r → r .number ≡ finished
     → length (settings soft) ≤ settingsMost
 list-few n hard soft list scratch r p done =
     let refusal = listRefusal n hard soft (length list) (length scratch) in
@@ -68,11 +68,11 @@ read-fits text hard soft r e =
 
 -- ---- the same of an answer
 
-pub turn-places : (n : ℕ) (given list scratch : List ℕ) (answer : Turning) (list′ scratch′ : List ℕ) → Turns n given list scratch (turnAnswered answer list′ scratch′)
+pub turn-places : (n : ℕ) (given list scratch : List ℕ) (answer : Turning) (list′ scratch′ : List ℕ) → TurnGives n given list scratch (turnAnswered answer list′ scratch′)
     → (filled : ℕ) → answer ≡ TurnListed filled → filled ≤ length list′
 turn-places n given list scratch answer list′ scratch′ p filled e = turn-fits n given list scratch (turnAnswered (TurnListed filled) list′ scratch′) (rw e at p)
 
-module _ (n : ℕ) (hard soft list scratch : List ℕ) (answer : Listing) (list′ scratch′ : List ℕ) (p : Lists n hard soft list scratch (listAnswered answer list′ scratch′))
+module _ (n : ℕ) (hard soft list scratch : List ℕ) (answer : Listing) (list′ scratch′ : List ℕ) (p : ListGives n hard soft list scratch (listAnswered answer list′ scratch′))
     (filled : ℕ) (e : answer ≡ Listed filled) where
   pub list-places : filled ≤ length list′
   list-places = list-fits n hard soft list scratch (listAnswered (Listed filled) list′ scratch′) (rw e at p)

@@ -17,7 +17,7 @@ use Rattle.setups.specs.Limits.{hardBytesMost, softBytesMost, setsMost, setting
 use Rattle.setups.specs.Setups.{Setup, setup, count, Together}
 use Rattle.setups.specs.Refusals.{finished, unmet}
 use Rattle.setups.specs.List.{ListResult, listedSets}
-use Rattle.setups.specs.Turn.{turnRefusal, Turns}
+use Rattle.setups.specs.Turn.{turnRefusal, TurnGives}
 use Rattle.setups.proofs.Duality.{unmet-no-way-out, unmet-empty-clash}
 use Rattle.setups.proofs.Refusals.{check-most}
 use Rattle.list.proofs.Promise.{list-means}
@@ -31,7 +31,7 @@ use Rattle.resolve.specs.Meaning.{Resolved, Found, Refused}
 
 -- ---- no refusal has the number of Unmet
 
-turn-small : (n : ℕ) (given list scratch : List ℕ) (r : ListResult) → Turns n given list scratch r → r .number ≤ 12
+turn-small : (n : ℕ) (given list scratch : List ℕ) (r : ListResult) → TurnGives n given list scratch r → r .number ≤ 12
 turn-small n given list scratch r p =
     subst Small (sym (p .says))
     (cond-case Small (eqb (turnRefusal n given (length list) (length scratch)) 0)

@@ -10,7 +10,7 @@ use Rattle.setups.specs.Limits.{setsMost}
 use Rattle.setups.specs.Setups.{Setup, count}
 use Rattle.setups.specs.Refusals.{finished}
 use Rattle.setups.specs.List.{ListResult, listedSets}
-use Rattle.setups.specs.Turn.{Turns}
+use Rattle.setups.specs.Turn.{TurnGives}
 use Rattle.list.proofs.Promise.{result-only}
 use Rattle.turn.proofs.Promise.{turns-only}
 use Rattle.lines.specs.Lines.{refusalLines}
@@ -19,8 +19,8 @@ use Rattle.resolve.specs.Resolve.{places, scratchPlaces, reading, setupR
 answers-only : (g : Setup) (a b : List ℕ) → Answers g a → Answers g b → a ≡ b
 answers-only g a b p q =
     let found : p .found ≡ q .found = result-only (g .variables) (g .hard) (g .soft) (places setsMost) (places scratchPlaces) (p .found) (q .found) (p .lists) (q .lists) in
-    let turns : Turns (count g) (listedSets (q .found)) (places setsMost) (q .found .scratch) (p .turned) =
-    subst (λ (r : ListResult). Turns (count g) (listedSets r) (places setsMost) (r .scratch) (p .turned)) found (p .turns) in
+    let turns : TurnGives (count g) (listedSets (q .found)) (places setsMost) (q .found .scratch) (p .turned) =
+    subst (λ (r : ListResult). TurnGives (count g) (listedSets r) (places setsMost) (r .scratch) (p .turned)) found (p .turns) in
     let turned = turns-only (count g) (listedSets (q .found)) (places setsMost) (q .found .scratch) (p .turned) (q .turned) turns (q .turns) in
     p .says ∙ ap (λ (r : ListResult). listedLines r (p .turned)) found ∙ ap (listedLines (q .found)) turned ∙ sym (q .says)
 

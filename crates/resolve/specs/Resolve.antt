@@ -8,8 +8,8 @@ use lib.ListN.{take, replicate}
 use Rattle.setups.specs.Limits.{hardBytesMost, softBytesMost, setsMost}
 use Rattle.setups.specs.Setups.{Setup, setup, count}
 use Rattle.setups.specs.Refusals.{finished, unmet}
-use Rattle.setups.specs.List.{ListResult, listedSets, Lists}
-use Rattle.setups.specs.Turn.{Turns}
+use Rattle.setups.specs.List.{ListResult, listedSets, ListGives}
+use Rattle.setups.specs.Turn.{TurnGives}
 use Rattle.read.specs.Read.{ReadResult, readResult}
 use Rattle.lines.specs.Lines.{answerLines, refusalLines, Puts}
 
@@ -48,15 +48,15 @@ example-lines = (refl, λ turned. refl)
 -- `lines` answer the ways out of a setup of n settings: Turn, with this scratch, gives `turned`
 pub record AnswersTurn (n : ℕ) (ways scratch lines : List ℕ) : Type 0 where
   pub turned : ListResult
-  pub turns : Turns n ways (places setsMost) scratch turned
+  pub turns : TurnGives n ways (places setsMost) scratch turned
   pub says : lines ≡ turnedLines ways turned
 
 -- `lines` answer the setup g: List gives `found`, and Turn, over its list and its scratch, gives `turned`
 pub record Answers (g : Setup) (lines : List ℕ) : Type 0 where
   pub found : ListResult
-  pub lists : Lists (g .variables) (g .hard) (g .soft) (places setsMost) (places scratchPlaces) found
+  pub lists : ListGives (g .variables) (g .hard) (g .soft) (places setsMost) (places scratchPlaces) found
   pub turned : ListResult
-  pub turns : Turns (count g) (listedSets found) (places setsMost) (found .scratch) turned
+  pub turns : TurnGives (count g) (listedSets found) (places setsMost) (found .scratch) turned
   pub says : lines ≡ listedLines found turned
 
 -- `lines` are what is put out for the text: "the first refusal number that Read, List or Turn gives"

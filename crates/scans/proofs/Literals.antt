@@ -5,11 +5,11 @@ use mathlib.Core.List.{List, [], _∷_, _++_}
 use Prim.Native.Nat.{ℕ, zero, suc, _+_, _%_, suc-le-suc}
 use native.Mathlib.Nat.{le-refl, zero-lt-suc, suc-ne-zero}
 use lib.ListN.{length, getD}
-use Rattle.sets.specs.Lists.{Listed}
+use Rattle.sets.specs.Lists.{Among}
 use Rattle.setups.specs.declared.Seen.{Seen}
 use Rattle.setups.specs.declared.Seen.the-variants.{OneFree}
 use Rattle.setups.specs.Limits.{variablesMost}
-use Rattle.setups.specs.Clauses.{push, clauses, Among, LiteralOf, place}
+use Rattle.setups.specs.Clauses.{push, clauses, LiteralOf, place}
 use Rattle.setups.specs.Searching.{seeValue, see, scan}
 use Rattle.setups.specs.Ask.{units}
 use Rattle.setups.proofs.Scanning.{scan-right}
@@ -27,7 +27,7 @@ sees values seen b at h e = ap (λ (p : ℕ). seeValue seen b (getD values p 0))
 
 -- each literal of each clause has its value among those of a search
 abbrev Literals : List (List ℕ) → Type 0
-Literals cs = (clause : List ℕ) → Among clause cs → (b : ℕ) → Listed b clause → LiteralOf variablesMost b
+Literals cs = (clause : List ℕ) → Among clause cs → (b : ℕ) → Among b clause → LiteralOf variablesMost b
 
 literals-append : (cs ds : List (List ℕ)) → Literals cs → Literals ds → Literals (cs ++ ds)
 literals-append [] ds f g clause among = g clause among
@@ -36,12 +36,12 @@ literals-append (c ∷ cs) ds f g clause (inr h) = literals-append cs ds (λ k a
 
 literals-push : (x : ℕ) (cs : List (List ℕ)) → LiteralOf variablesMost x → Literals cs → Literals (push x cs)
 literals-push x [] h f clause among b l = absurd among
-literals-push x (c ∷ cs) h f clause (inl e) b l = ⊎-elim (λ k. rw k h) (f c (inl refl) b) (subst (Listed b) e l)
+literals-push x (c ∷ cs) h f clause (inl e) b l = ⊎-elim (λ k. rw k h) (f c (inl refl) b) (subst (Among b) e l)
 literals-push x (c ∷ cs) h f clause (inr a) b l = f clause (inr a) b l
 
 literals-of : (bytes : List ℕ) → Readable bytes → Literals (clauses bytes)
 literals-of [] f clause among b l = absurd among
-literals-of (zero ∷ bytes) f clause (inl e) b l = absurd (subst (Listed b) e l)
+literals-of (zero ∷ bytes) f clause (inl e) b l = absurd (subst (Among b) e l)
 literals-of (zero ∷ bytes) f clause (inr a) b l = literals-of bytes (λ i h. f (suc i) (suc-le-suc h)) clause a b l
 literals-of (suc x ∷ bytes) f clause among b l =
     literals-push (suc x) (clauses bytes) (f 0 (zero-lt-suc (length bytes)) (suc-ne-zero x)) (literals-of bytes (λ i h. f (suc i) (suc-le-suc h)))
@@ -50,7 +50,7 @@ literals-of (suc x ∷ bytes) f clause among b l =
 literals-units : (assumed : List ℕ) → ReadableUnits assumed → Literals (units assumed)
 literals-units [] f clause among b l = absurd among
 literals-units (x ∷ assumed) f clause (inl e) b l =
-    ⊎-elim (λ k. rw k (f 0 (zero-lt-suc (length assumed)))) (λ z. absurd z) (subst (Listed b) e l)
+    ⊎-elim (λ k. rw k (f 0 (zero-lt-suc (length assumed)))) (λ z. absurd z) (subst (Among b) e l)
 literals-units (x ∷ assumed) f clause (inr a) b l = literals-units assumed (λ i h. f (suc i) (suc-le-suc h)) clause a b l
 
 -- the literal that a scan gives is one of them

@@ -9,7 +9,7 @@ use native.Mathlib.Omega.{arith}
 use lib.Dec.{T}
 use lib.ListN.{length, getD, replicate}
 use Rattle.sets.specs.Sets.{In}
-use Rattle.sets.specs.Lists.{Listed}
+use Rattle.sets.specs.Lists.{Among}
 use Rattle.sets.specs.Tests.{has, all}
 use Rattle.sets.specs.Marks.{kept, lost, open′, mark, marksFrom, marks}
 use Rattle.numbers.proofs.Deciding.{T-true, T-false, dec-not, stable}
@@ -22,11 +22,11 @@ use Rattle.sets.proofs.Tests.{has-in, in-has, lacks-iff, all-at, at-all
 module _ (list : List ℕ) (i : ℕ) where
   -- some listed set has the setting at place i
   abbrev pub Had : Type 0
-  Had = (S : ℕ) × Listed S list × In i S
+  Had = (S : ℕ) × Among S list × In i S
 
   -- some listed set has it not
   abbrev pub Spared : Type 0
-  Spared = (S : ℕ) × Listed S list × (¬ In i S)
+  Spared = (S : ℕ) × Among S list × (¬ In i S)
 
   -- both are decided
   had-dec : Dec Had
@@ -66,17 +66,17 @@ module _ (list : List ℕ) (i : ℕ) where
   mark-open h s = rw (T-false none .0 (λ t. none-iff .0 t h), T-false whole .0 (λ t. whole-iff .0 t s))
 
   -- kept: no listed set has the setting
-  pub kept-iff : (mark list i ≡ kept) ↔ ((S : ℕ) → Listed S list → ¬ In i S)
+  pub kept-iff : (mark list i ≡ kept) ↔ ((S : ℕ) → Among S list → ¬ In i S)
   kept-iff = (to, λ f. mark-kept (λ h. f (h .0) (h .1) (h .2)))
     where
-      to : mark list i ≡ kept → (S : ℕ) → Listed S list → ¬ In i S
+      to : mark list i ≡ kept → (S : ℕ) → Among S list → ¬ In i S
       to e S h k = by-cases spared-dec (λ s. omega (arith, mark-open (S, h, k) s)) (λ q. omega (arith, mark-lost (S, h, k) q))
 
   -- lost: some set is listed, and each listed set has the setting
-  pub lost-iff : (mark list i ≡ lost) ↔ (((S : ℕ) × Listed S list) × ((S : ℕ) → Listed S list → In i S))
+  pub lost-iff : (mark list i ≡ lost) ↔ (((S : ℕ) × Among S list) × ((S : ℕ) → Among S list → In i S))
   lost-iff = (to, λ f. mark-lost (f .0 .0, f .0 .1, f .1 (f .0 .0) (f .0 .1)) (λ s. s .2 (f .1 (s .0) (s .1))))
     where
-      to : mark list i ≡ lost → ((S : ℕ) × Listed S list) × ((S : ℕ) → Listed S list → In i S)
+      to : mark list i ≡ lost → ((S : ℕ) × Among S list) × ((S : ℕ) → Among S list → In i S)
       to e =
           by-cases had-dec
           (λ h. ((h .0, h .1), λ S k. stable (in-dec i S) (λ n. omega (arith, mark-open h (S, k, n)))))

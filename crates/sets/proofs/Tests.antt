@@ -9,7 +9,7 @@ use native.Mathlib.Decide.{decLt}
 use native.Mathlib.Omega.{arith}
 use lib.Dec.{T, eqb, eqb→eq, eqb-refl, ltb, ltb→lt, lt→ltb}
 use Rattle.sets.specs.Sets.{digit, In, Within}
-use Rattle.sets.specs.Lists.{Listed, Rising, Apart, Exactly}
+use Rattle.sets.specs.Lists.{Among, Rising, Apart, Exactly}
 use Rattle.sets.specs.Turns.{Fine}
 use Rattle.sets.specs.Tests.{has, every, all, within, climbs, rises, apart, fine}
 use Rattle.numbers.proofs.Deciding.{and-left, and-right, and-both, and-iff, not-iff, or-left, or-right, or-cases}
@@ -47,13 +47,13 @@ at-every (suc n) test f =
     and-both (test n) (every n test) (f n (le-refl (suc n))) (at-every n test (λ i l. f i (omega arith)))
 
 -- where every set of a list passes, each listed one does
-pub all-at : (test : ℕ → Bool) (list : List ℕ) → T (all test list) → (S : ℕ) → Listed S list → T (test S)
+pub all-at : (test : ℕ → Bool) (list : List ℕ) → T (all test list) → (S : ℕ) → Among S list → T (test S)
 all-at test [] t S h = absurd h
 all-at test (R ∷ list) t S (inl e) = rw e (and-left (test R) (all test list) t)
 all-at test (R ∷ list) t S (inr h) = all-at test list (and-right (test R) (all test list) t) S h
 
 -- where each listed one does, every set passes
-pub at-all : (test : ℕ → Bool) (list : List ℕ) → ((S : ℕ) → Listed S list → T (test S)) → T (all test list)
+pub at-all : (test : ℕ → Bool) (list : List ℕ) → ((S : ℕ) → Among S list → T (test S)) → T (all test list)
 at-all test [] f = tt
 at-all test (R ∷ list) f =
     and-both (test R) (all test list) (f R (inl refl)) (at-all test list (λ S h. f S (inr h)))
@@ -74,19 +74,19 @@ within-iff n S R s = (to, from)
     from w = at-every n test (λ i l. implies-make (has S i) (has R i) (λ t. in-has R i (w i (has-in S i t))))
 
 -- the test for a list that climbs from above `low`
-climbs-iff : (low : ℕ) (list : List ℕ) → T (climbs low list) ↔ (((S : ℕ) → Listed S list → low < S) × Rising list)
+climbs-iff : (low : ℕ) (list : List ℕ) → T (climbs low list) ↔ (((S : ℕ) → Among S list → low < S) × Rising list)
 climbs-iff low [] = ((λ t. ((λ S h. absurd h), tt)), λ h. tt)
 climbs-iff low (S ∷ list) = both (climbs-iff S list)
   where
-    above : low < S → ((R : ℕ) → Listed R list → S < R) → (R : ℕ) → Listed R (S ∷ list) → low < R
+    above : low < S → ((R : ℕ) → Among R list → S < R) → (R : ℕ) → Among R (S ∷ list) → low < R
     above l r R (inl e) = omega arith
     above l r R (inr h) = omega (arith, r R h)
 
     both : T (climbs S list) ↔ Rising (S ∷ list)
-        → T (ltb low S && climbs S list) ↔ (((R : ℕ) → Listed R (S ∷ list) → low < R) × Rising (S ∷ list))
+        → T (ltb low S && climbs S list) ↔ (((R : ℕ) → Among R (S ∷ list) → low < R) × Rising (S ∷ list))
     both rest = (to, λ h. and-both (ltb low S) (climbs S list) (lt→ltb low S (h .0 S (inl refl))) (rest .1 (h .1)))
       where
-        to : T (ltb low S && climbs S list) → ((R : ℕ) → Listed R (S ∷ list) → low < R) × Rising (S ∷ list)
+        to : T (ltb low S && climbs S list) → ((R : ℕ) → Among R (S ∷ list) → low < R) × Rising (S ∷ list)
         to t =
             let k = and-iff (ltb low S) (climbs S list) .0 t in
             let r = rest .0 (k .1) in
@@ -105,23 +105,23 @@ clear-iff n S R s r =
     (Iff·trans (not-iff (within n R S)) (Iff·not (within-iff n R S r))))
 
 -- the test for a rising list over n settings of which no set contains another
-pub apart-iff : (n : ℕ) (list : List ℕ) → Rising list → ((S : ℕ) → Listed S list → S < 2 ^ n) → T (apart n list) ↔ Apart list
+pub apart-iff : (n : ℕ) (list : List ℕ) → Rising list → ((S : ℕ) → Among S list → S < 2 ^ n) → T (apart n list) ↔ Apart list
 apart-iff n [] r b = ((λ t S R h. absurd h), λ a. tt)
 apart-iff n (S ∷ list) r b = both (apart-iff n list (r .1) (λ R h. b R (inr h)))
   where
     test : ℕ → Bool
     test R = not (within n S R) && not (within n R S)
 
-    clear : (R : ℕ) → Listed R list → T (test R) ↔ ((¬ Within S R) × (¬ Within R S))
+    clear : (R : ℕ) → Among R list → T (test R) ↔ ((¬ Within S R) × (¬ Within R S))
     clear R h = clear-iff n S R (b S (inl refl)) (b R (inr h))
 
-    pair : T (all test list) → Apart list → (A B : ℕ) → Listed A (S ∷ list) → Listed B (S ∷ list) → Within A B → A ≡ B
+    pair : T (all test list) → Apart list → (A B : ℕ) → Among A (S ∷ list) → Among B (S ∷ list) → Within A B → A ≡ B
     pair t a A B (inl e) (inl f) w = e ∙ sym f
     pair t a A B (inl e) (inr k) w = absurd (clear B k .0 (all-at test list t B k) .0 (rw e at w))
     pair t a A B (inr h) (inl f) w = absurd (clear A h .0 (all-at test list t A h) .1 (rw f at w))
     pair t a A B (inr h) (inr k) w = a A B h k w
 
-    alone : Apart (S ∷ list) → (R : ℕ) → Listed R list → T (test R)
+    alone : Apart (S ∷ list) → (R : ℕ) → Among R list → T (test R)
     alone a R h =
         let l : S < R = r .0 R h in
         clear R h .1 ((λ w. omega (arith, a S R (inl refl) (inr h) w)), λ w. omega (arith, a R S (inr h) (inl refl) w))
@@ -144,7 +144,7 @@ fine-iff n list = (to, from)
         let u = and-iff (rises list) (all under list && apart n list) .0 t in
         let v = and-iff (all under list) (apart n list) .0 (u .1) in
         let r = rises-iff list .0 (u .0) in
-        let b : (S : ℕ) → Listed S list → S < 2 ^ n = λ S h. ltb→lt S (2 ^ n) (all-at under list (v .0) S h) in
+        let b : (S : ℕ) → Among S list → S < 2 ^ n = λ S h. ltb→lt S (2 ^ n) (all-at under list (v .0) S h) in
         record { rising = r; below = b; apart = apart-iff n list r b .0 (v .1) }
 
     from : Fine n list → T (fine n list)
@@ -161,11 +161,11 @@ listed S [] = false
 listed S (R ∷ list) = eqb S R || listed S list
 
 -- the test for it
-pub listed-iff : (S : ℕ) (list : List ℕ) → T (listed S list) ↔ Listed S list
+pub listed-iff : (S : ℕ) (list : List ℕ) → T (listed S list) ↔ Among S list
 listed-iff S [] = ((λ t. t), λ h. h)
 listed-iff S (R ∷ list) = both (listed-iff S list)
   where
-    both : T (listed S list) ↔ Listed S list → T (eqb S R || listed S list) ↔ ((S ≡ R) ⊎ Listed S list)
+    both : T (listed S list) ↔ Among S list → T (eqb S R || listed S list) ↔ ((S ≡ R) ⊎ Among S list)
     both rest = (
       (λ t. ⊎-elim (λ e. inl (eqb→eq S R e)) (λ h. inr (rest .0 h)) (or-cases (eqb S R) (listed S list) t)),
       ⊎-elim (λ e. or-left (eqb S R) (listed S list) (rw e (eqb-refl R))) (λ h. or-right (eqb S R) (listed S list) (rest .1 h)),
@@ -190,12 +190,12 @@ lists-exactly top P test list below is t =
     found : ℕ → Bool
     found S = not (test S) || listed S list
 
-    to : T (all good list) → (S : ℕ) → Listed S list → P S
+    to : T (all good list) → (S : ℕ) → Among S list → P S
     to each S h =
         let k = and-iff (ltb S top) (test S) .0 (all-at good list each S h) in
         is S (ltb→lt S top (k .0)) .0 (k .1)
 
-    from : T (every top found) → (S : ℕ) → P S → Listed S list
+    from : T (every top found) → (S : ℕ) → P S → Among S list
     from each S p =
         let s = below S p in
         listed-iff S list .0 (implies-use (test S) (listed S list) (every-at top found each S s) (is S s .1 p))

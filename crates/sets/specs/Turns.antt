@@ -5,7 +5,7 @@ use mathlib.Core.List.{List, [], _∷_}
 use Prim.Native.Nat.{ℕ, _^_, _<_}
 use native.Mathlib.Omega.{arith}
 use Rattle.sets.specs.Sets.{Share, Smallest}
-use Rattle.sets.specs.Lists.{Listed, Rising, Apart, Exactly}
+use Rattle.sets.specs.Lists.{Among, Rising, Apart, Exactly}
 
 -- S, a set over n settings, shares a setting with each set of the family
 pub record Crosses (n : ℕ) (Family : ℕ → Type 0) (S : ℕ) : Type 0 where
@@ -13,9 +13,9 @@ pub record Crosses (n : ℕ) (Family : ℕ → Type 0) (S : ℕ) : Type 0 where
   pub each : (M : ℕ) → Family M → Share S M
 
 -- 2 shares a setting with 3 and with 6
-example-crosses : Crosses 3 (λ M. Listed M (3 ∷ 6 ∷ [])) 2
+example-crosses : Crosses 3 (λ M. Among M (3 ∷ 6 ∷ [])) 2
 example-crosses = record { below = omega arith; each = each } where
-  each : (M : ℕ) → Listed M (3 ∷ 6 ∷ []) → Share 2 M
+  each : (M : ℕ) → Among M (3 ∷ 6 ∷ []) → Share 2 M
   each M (inl three) = subst (Share 2) (sym three) (1, refl, refl)
   each M (inr (inl six)) = subst (Share 2) (sym six) (1, refl, refl)
 
@@ -26,10 +26,10 @@ SmallestCross n Family = Smallest (Crosses n Family)
 -- a list that Turn and Mark take over n settings: strictly rising, no setting above the count, no set within another
 pub record Fine (n : ℕ) (list : List ℕ) : Type 0 where
   pub rising : Rising list
-  pub below : (S : ℕ) → Listed S list → S < 2 ^ n
+  pub below : (S : ℕ) → Among S list → S < 2 ^ n
   pub apart : Apart list
 
 -- `turned` is the turn of `list` over n settings. Over two settings the turn of 3 is 1, 2, and the turn of 1, 2 is 3;
 -- the turn of the empty list is the list of the empty set alone, and the other way about.
 abbrev pub Turned : ℕ → List ℕ → List ℕ → Type 0
-Turned n list turned = Exactly (SmallestCross n (λ M. Listed M list)) turned
+Turned n list turned = Exactly (SmallestCross n (λ M. Among M list)) turned

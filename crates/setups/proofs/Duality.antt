@@ -8,7 +8,7 @@ use native.Mathlib.Decide.{ℕ-discrete, decLt}
 use native.Mathlib.Omega.{arith}
 use lib.Pow.{pow-pos}
 use Rattle.sets.specs.Sets.{Smallest}
-use Rattle.sets.specs.Lists.{Listed, Exactly}
+use Rattle.sets.specs.Lists.{Among, Exactly}
 use Rattle.sets.specs.Turns.{SmallestCross, Turned}
 use Rattle.numbers.proofs.Deciding.{dec-and, dec-iff, stable}
 use Rattle.sets.proofs.Digits.{in-dec, none-in, none-within, within-le, within-none, within-out, out-within, out-differs, missing}
@@ -108,14 +108,14 @@ module _ (g : Setup) where
   clashes-turn list turned w t = record {
     rising = t .rising;
     exact = λ C.
-        Iff·trans (t .exact C) (Iff·trans (cross-iff (count g) (λ M. Listed M list) (WayOut g) (w .exact) C) (Iff·symm (clashes-cross C)));
+        Iff·trans (t .exact C) (Iff·trans (cross-iff (count g) (λ M. Among M list) (WayOut g) (w .exact) C) (Iff·symm (clashes-cross C)));
   }
 
   pub ways-out-turn : (list turned : List ℕ) → Exactly (Clash g) list → Turned (count g) list turned → Exactly (WayOut g) turned
   ways-out-turn list turned c t = record {
     rising = t .rising;
     exact = λ S.
-        Iff·trans (t .exact S) (Iff·trans (cross-iff (count g) (λ M. Listed M list) (Clash g) (c .exact) S) (Iff·symm (ways-out-cross S)));
+        Iff·trans (t .exact S) (Iff·trans (cross-iff (count g) (λ M. Among M list) (Clash g) (c .exact) S) (Iff·symm (ways-out-cross S)));
   }
 
   -- both lists exist

@@ -9,11 +9,11 @@ use native.Mathlib.Omega.{arith}
 use lib.Dec.{T, ltb, eqb}
 use lib.ListN.{length, getD, set}
 use borrow.Author.Tests.{eqb-true, eqb-false, ltb-true, ltb-false, lt-ltb, le-ltb}
-use Rattle.sets.specs.Lists.{Listed}
+use Rattle.sets.specs.Lists.{Among}
 use Rattle.numbers.proofs.Deciding.{or-left, or-right, or-cases, cond-case}
 use Rattle.setups.specs.declared.Seen.{Seen}
 use Rattle.setups.specs.declared.Seen.the-variants.{AllFalse, OneFree, Enough}
-use Rattle.setups.specs.Clauses.{Among, place, wish, literalTrue}
+use Rattle.setups.specs.Clauses.{place, wish, literalTrue}
 use Rattle.setups.specs.Settling.{isFree, isFalse, allFalse, broken, Forces, put}
 use Rattle.setups.specs.Search.{Lowest}
 use Rattle.setups.specs.Searching.{judge, orElse, scan, freeCount, lowestFree}
@@ -29,7 +29,7 @@ Judged values clause Enough = ¬ T (allFalse values clause) × ((b : ℕ) → ¬
 
 -- each literal of c stands in d too or is false
 abbrev CoveredBy : List ℕ → List ℕ → List ℕ → Type 0
-CoveredBy values c d = (l : ℕ) → Listed l c → Listed l d ⊎ T (isFalse values l)
+CoveredBy values c d = (l : ℕ) → Among l c → Among l d ⊎ T (isFalse values l)
 
 module _ (values : List ℕ) where
   -- a wholly false clause forces nothing
@@ -37,7 +37,7 @@ module _ (values : List ℕ) where
   false-forces-none clause b t f = free-not-false values b (f .free) (each-false values clause .0 t b (f .stands))
 
   -- where a clause forces a literal, each free literal in it is that one
-  free-forced : (clause : List ℕ) (b l : ℕ) → Forces values clause b → Listed l clause → T (isFree values l) → l ≡ b
+  free-forced : (clause : List ℕ) (b l : ℕ) → Forces values clause b → Among l clause → T (isFree values l) → l ≡ b
   free-forced clause b l f h free = ⊎-elim (λ e. e) (λ n. absurd (free-not-false values l free n)) (f .others l h)
 
   -- so that it forces one at most
@@ -75,14 +75,14 @@ module _ (values : List ℕ) where
   judged-carries c d Enough f g r = ((λ t. r .0 (false-carries d c f t)), λ b h. r .1 b (forces-carries d c b g f h))
 
   -- a true literal is enough
-  true-enough : (clause : List ℕ) (l : ℕ) → Listed l clause → T (literalTrue values l) → Judged values clause Enough
+  true-enough : (clause : List ℕ) (l : ℕ) → Among l clause → T (literalTrue values l) → Judged values clause Enough
   true-enough clause l h t = (
     (λ n. true-not-false values l t (each-false values clause .0 n l h)),
     λ b f. ⊎-elim (λ e. true-not-free values l t (rw e (f .free))) (true-not-false values l t) (f .others l h),
   )
 
   -- two free literals are enough
-  two-enough : (clause : List ℕ) (l b : ℕ) → Listed l clause → Listed b clause → T (isFree values l) → T (isFree values b) → l ≢ b
+  two-enough : (clause : List ℕ) (l b : ℕ) → Among l clause → Among b clause → T (isFree values l) → T (isFree values b) → l ≢ b
       → Judged values clause Enough
   two-enough clause l b h k f g n = (
     (λ a. free-not-false values l f (each-false values clause .0 a l h)),

@@ -9,9 +9,9 @@ use native.Mathlib.Omega.{arith}
 use lib.Dec.{T, ltb, T-not, not-T, ltb→lt, lt→ltb, nltb→le, eqb→eq, eqb-refl}
 use lib.ListN.{length, getD, set, length-set}
 use lib.Seq.{getD-set-same, getD-set-other, ext-getD}
-use Rattle.sets.specs.Lists.{Listed}
+use Rattle.sets.specs.Lists.{Among}
 use Rattle.numbers.proofs.Deciding.{and-left, and-right, and-both, or-left, or-right, or-cases, T-dec, cond-case}
-use Rattle.setups.specs.Clauses.{Among, place, wish, literalTrue}
+use Rattle.setups.specs.Clauses.{place, wish, literalTrue}
 use Rattle.setups.specs.Settling.{isFree, isFalse, allFalse, broken, Forces, put, Forced, Steps, no-step, step-on, Settles}
 use Rattle.setups.specs.Meaning.{Alike}
 
@@ -74,15 +74,15 @@ free-inside (x ∷ values) (suc i) h = omega (arith, free-inside values i h)
 -- ---- clauses
 
 -- a clause is wholly false exactly where each of its literals is false
-pub each-false : (values clause : List ℕ) → T (allFalse values clause) ↔ ((l : ℕ) → Listed l clause → T (isFalse values l))
+pub each-false : (values clause : List ℕ) → T (allFalse values clause) ↔ ((l : ℕ) → Among l clause → T (isFalse values l))
 each-false values clause = (there clause, back clause)
   where
-    there : (clause : List ℕ) → T (allFalse values clause) → (l : ℕ) → Listed l clause → T (isFalse values l)
+    there : (clause : List ℕ) → T (allFalse values clause) → (l : ℕ) → Among l clause → T (isFalse values l)
     there [] t l h = absurd h
     there (b ∷ clause) t l (inl e) = rw e (and-left (isFalse values b) (allFalse values clause) t)
     there (b ∷ clause) t l (inr h) = there clause (and-right (isFalse values b) (allFalse values clause) t) l h
 
-    back : (clause : List ℕ) → ((l : ℕ) → Listed l clause → T (isFalse values l)) → T (allFalse values clause)
+    back : (clause : List ℕ) → ((l : ℕ) → Among l clause → T (isFalse values l)) → T (allFalse values clause)
     back [] f = tt
     back (b ∷ clause) f = and-both (isFalse values b) (allFalse values clause) (f b (inl refl)) (back clause (λ l h. f l (inr h)))
 
@@ -192,7 +192,7 @@ force-within {cs} {a} {s} clause b stable g among forces =
     (λ n. absurd (stable .whole (some-broken s cs .1 (clause, among, each-false s clause .1 (λ l h. ⊎-elim (λ e. rw e n) (λ k. k) (others l h)))))))
     (literal-cases s b)
   where
-    others : (l : ℕ) → Listed l clause → (l ≡ b) ⊎ T (isFalse s l)
+    others : (l : ℕ) → Among l clause → (l ≡ b) ⊎ T (isFalse s l)
     others l h = ⊎-elim inl (λ n. inr (false-grows l g n)) (forces .others l h)
 
 -- so that every run stays within every stable end

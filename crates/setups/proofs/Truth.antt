@@ -6,8 +6,8 @@ use mathlib.Core.List.{List, [], _∷_, _++_}
 use Prim.Native.Nat.{ℕ, zero, suc}
 use lib.Dec.{T, eqb, eqb·suc-zero}
 use lib.ListN.{getD}
-use Rattle.sets.specs.Lists.{Listed}
-use Rattle.setups.specs.Clauses.{push, clauses, Among, place, wish, clauseTrue, allTrue}
+use Rattle.sets.specs.Lists.{Among}
+use Rattle.setups.specs.Clauses.{push, clauses, place, wish, clauseTrue, allTrue}
 use Rattle.setups.specs.Refusals.{ended}
 use Rattle.setups.specs.Setups.{apiece, settings}
 
@@ -52,7 +52,7 @@ allTrue-append m (c ∷ cs) ds =
 
 -- the two assignments give the variable of each literal of the clause the same value
 abbrev pub AgreeOn : List ℕ → List ℕ → List ℕ → Type 0
-AgreeOn m k clause = (b : ℕ) → Listed b clause → getD m (place b) 0 ≡ getD k (place b) 0
+AgreeOn m k clause = (b : ℕ) → Among b clause → getD m (place b) 0 ≡ getD k (place b) 0
 
 pub clause-agree : (m k clause : List ℕ) → AgreeOn m k clause → clauseTrue m clause ≡ clauseTrue k clause
 clause-agree m k [] h = refl

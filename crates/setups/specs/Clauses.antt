@@ -1,6 +1,5 @@
 -- Clauses in a byte buffer, and their truth under an assignment (document 01, "Setups").
 use mathlib.Core.Path.{_≡_, refl}
-use mathlib.Core.Logic.{_⊎_}
 use mathlib.Core.Bool.{Bool, true, false, cond, _&&_, _||_}
 use mathlib.Core.List.{List, [], _∷_}
 use Prim.Native.Nat.{ℕ, zero, suc, _-_, _%_, _≤_, _<_}
@@ -21,11 +20,6 @@ clauses (suc b ∷ bytes) = push (suc b) (clauses bytes)
 -- (1 −2) and the empty clause; the last 3 has no end
 example-clauses : clauses (1 ∷ 130 ∷ 0 ∷ 0 ∷ 3 ∷ []) ≡ (1 ∷ 130 ∷ []) ∷ [] ∷ []
 example-clauses = refl
-
--- the clause is one of these
-abbrev pub Among : List ℕ → List (List ℕ) → Type 0
-Among clause [] = ⊥
-Among clause (c ∷ rest) = (clause ≡ c) ⊎ Among clause rest
 
 -- An assignment of n variables is a list of n values, each 0 or 1: the value of variable v stands at place v − 1.
 pub record Assigns (n : ℕ) (m : List ℕ) : Type 0 where

@@ -10,6 +10,7 @@ pub mod Searching
 pub mod Meaning
 pub mod Refusals
 pub mod Checks
+pub mod Written
 pub mod Taken
 pub mod Ask
 pub mod List

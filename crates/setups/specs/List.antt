@@ -2,15 +2,16 @@
 use mathlib.Core.Path.{_≡_, refl}
 use mathlib.Core.Logic.{_↔_}
 use mathlib.Core.Bool.{Bool, cond, _||_}
-use mathlib.Core.List.{List, [], _∷_, _++_}
+use mathlib.Core.List.{List, [], _∷_}
 use Prim.Native.Nat.{ℕ}
 use lib.Dec.{T, ltb, leb, eqb}
-use lib.ListN.{length, take, drop, replicate}
+use lib.ListN.{length, take, replicate}
 use Rattle.sets.specs.Lists.{Exactly}
 use Rattle.setups.specs.declared.Refusal.the-variants.{Vars, Size, Work, TooMany}
 use Rattle.setups.specs.Limits.{variablesMost, hardBytesMost, softBytesMost, setsMost}
 use Rattle.setups.specs.Setups.{setup, Together, WayOut}
 use Rattle.setups.specs.Refusals.{numberOf, finished, unmet, check, clausesRefusal}
+use Rattle.setups.specs.Written.{written}
 
 -- of List and of Turn: the answer's number, how many places Listed has filled (else 0), the list buffer and the scratch afterwards
 pub record ListResult : Type 0 where
@@ -34,7 +35,7 @@ zeroed scratch = replicate (length scratch) 0
 abbrev pub givenOut : List ℕ → List ℕ → List ℕ → ListResult
 givenOut sets list scratch =
     cond (ltb (length list) (length sets)) (without-list (numberOf TooMany) list (zeroed scratch))
-    (record { number = finished; filled = length sets; list = sets ++ drop (length sets) list; scratch = zeroed scratch })
+    (record { number = finished; filled = length sets; list = written sets list; scratch = zeroed scratch })
 
 -- two sets in room 3 leave the third place; in room 1 they are TooMany, and only the scratch is written
 example-given-out :
@@ -55,7 +56,7 @@ listed refusal met ways list scratch =
     (without-list refusal list scratch)
 
 -- The result r of List: `ways` are exactly the ways out, rising, and `met` tells whether the hard clauses have a model.
-pub record Lists (n : ℕ) (hard soft list scratch : List ℕ) (r : ListResult) : Type 0 where
+pub record ListGives (n : ℕ) (hard soft list scratch : List ℕ) (r : ListResult) : Type 0 where
   pub ways : List ℕ
   pub exact : Exactly (WayOut (setup n hard soft)) ways
   pub met : Bool

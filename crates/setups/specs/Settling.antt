@@ -6,9 +6,9 @@ use mathlib.Core.List.{List, [], _∷_, _++_}
 use Prim.Native.Nat.{ℕ, _-_}
 use lib.Dec.{T, ltb}
 use lib.ListN.{getD, set, replicate}
-use Rattle.sets.specs.Lists.{Listed}
+use Rattle.sets.specs.Lists.{Among}
 use Rattle.setups.specs.Limits.{variablesMost}
-use Rattle.setups.specs.Clauses.{Among, place, wish, literalTrue}
+use Rattle.setups.specs.Clauses.{place, wish, literalTrue}
 
 -- A variable's value is 0 or 1, or 2 where the variable is still free.
 abbrev pub isFree : List ℕ → ℕ → Bool
@@ -37,9 +37,9 @@ broken values (clause ∷ rest) = allFalse values clause || broken values rest
 
 -- the clause has no true literal and exactly one free literal, b, which may stand there more than once
 pub record Forces (values clause : List ℕ) (b : ℕ) : Type 0 where
-  pub stands : Listed b clause
+  pub stands : Among b clause
   pub free : T (isFree values b)
-  pub others : (l : ℕ) → Listed l clause → (l ≡ b) ⊎ T (isFalse values l)
+  pub others : (l : ℕ) → Among l clause → (l ≡ b) ⊎ T (isFalse values l)
 
 -- the values with the literal made true
 abbrev pub put : List ℕ → ℕ → List ℕ

@@ -25,7 +25,7 @@ example-turn-refusal : (turnRefusal 1 (0 ∷ 1 ∷ []) 4 5 ≡ 9) × (turnRefusa
 example-turn-refusal = (refl, refl)
 
 -- The result r of Turn: `turned` is the turn of the given list over n settings.
-pub record Turns (n : ℕ) (given list scratch : List ℕ) (r : ListResult) : Type 0 where
+pub record TurnGives (n : ℕ) (given list scratch : List ℕ) (r : ListResult) : Type 0 where
   pub turned : List ℕ
   pub exact : Turned n given turned
   pub says :

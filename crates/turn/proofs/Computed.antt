@@ -7,7 +7,7 @@ use Prim.Native.Nat.{ℕ, _-_, _^_, _<_}
 use native.Mathlib.Omega.{arith}
 use lib.Dec.{T, T-not, not-T}
 use Rattle.sets.specs.Sets.{In, Within, Share}
-use Rattle.sets.specs.Lists.{Listed}
+use Rattle.sets.specs.Lists.{Among}
 use Rattle.sets.specs.Turns.{Crosses, SmallestCross, Turned}
 use Rattle.sets.specs.Tests.{has, every, all}
 use Rattle.numbers.proofs.Deciding.{and-left, and-right, and-both, implies-use, implies-make, stable}
@@ -53,7 +53,7 @@ hits-iff n members S s = (
   λ h. at-all (λ M. not (clear n S M)) members (λ M l. clear-iff n S M s .1 (h M l)),
 )
 
-smallest-iff : (n : ℕ) (members : List ℕ) (S : ℕ) → S < 2 ^ n → T (smallest n members S) ↔ SmallestCross n (λ M. Listed M members) S
+smallest-iff : (n : ℕ) (members : List ℕ) (S : ℕ) → S < 2 ^ n → T (smallest n members S) ↔ SmallestCross n (λ M. Among M members) S
 smallest-iff n members S s = (to, from)
   where
     test : ℕ → Bool
@@ -62,10 +62,10 @@ smallest-iff n members S s = (to, from)
     below : (i : ℕ) → S - 2 ^ i < 2 ^ n
     below i = omega arith
 
-    to : T (smallest n members S) → SmallestCross n (λ M. Listed M members) S
+    to : T (smallest n members S) → SmallestCross n (λ M. Among M members) S
     to t = (record { below = s; each = hits-iff n members S s .0 (and-left (hits n members S) (every n test) t) }, less)
       where
-        less : (R : ℕ) → Within R S → ¬ (R ≡ S) → ¬ Crosses n (λ M. Listed M members) R
+        less : (R : ℕ) → Within R S → ¬ (R ≡ S) → ¬ Crosses n (λ M. Among M members) R
         less R w ne c =
             let lack = missing R S w ne in
             let i = lack .0 in
@@ -74,7 +74,7 @@ smallest-iff n members S s = (to, from)
             (implies-use (has S i) (not (hits n members (S - 2 ^ i))) (every-at n test (and-right (hits n members S) (every n test) t) i (in-below n s (lack .1))) (in-has S i (lack .1)))
             (hits-iff n members (S - 2 ^ i) (below i) .1 (λ M l. let h = c .each M l in (h .0, out (h .0) (h .1), h .2)))
 
-    from : SmallestCross n (λ M. Listed M members) S → T (smallest n members S)
+    from : SmallestCross n (λ M. Among M members) S → T (smallest n members S)
     from c =
         and-both (hits n members S) (every n test) (hits-iff n members S s .1 (c .0 .each))
         (at-every n test (λ i l. implies-make (has S i) (not (hits n members (S - 2 ^ i))) (λ t. not-T (hits n members (S - 2 ^ i)) (needed i (has-in S i t)))))
@@ -87,7 +87,7 @@ smallest-iff n members S s = (to, from)
 -- the list is the turn where the tests say so
 pub turn-computed : (n : ℕ) (members list : List ℕ) → T (lists (2 ^ n) (smallest n members) list) → Turned n members list
 turn-computed n members list t =
-    lists-exactly (2 ^ n) (SmallestCross n (λ M. Listed M members)) (smallest n members) list (λ S h. h .0 .below) (smallest-iff n members) t
+    lists-exactly (2 ^ n) (SmallestCross n (λ M. Among M members)) (smallest n members) list (λ S h. h .0 .below) (smallest-iff n members) t
 
 -- ---- of document 01's table
 

@@ -18,8 +18,8 @@ use Rattle.setups.specs.Limits.{setsMost, settingsMost}
 use Rattle.setups.specs.Setups.{setup, Together, WayOut}
 use Rattle.setups.specs.Refusals.{check, finished, unmet}
 use Rattle.setups.specs.declared.Refusal.the-variants.{Size, Work, Softs, List as NotAList}
-use Rattle.setups.specs.List.{ListResult, listedSets, without-list, zeroed, givenOut, listRefusal, Lists}
-use Rattle.setups.specs.Turn.{turnRefusal, Turns}
+use Rattle.setups.specs.List.{ListResult, listedSets, without-list, zeroed, givenOut, listRefusal, ListGives}
+use Rattle.setups.specs.Turn.{turnRefusal, TurnGives}
 use Rattle.setups.proofs.Refusals.{check-none}
 use Rattle.setups.proofs.JudgeLaws.{list-most}
 
@@ -49,7 +49,7 @@ checked-fine n given room scratchRoom e =
     fine-iff n given .0 (T-true (fine n given) .1 (not-false (fine n given) (f .0)))
 
 -- a finished turn was given a fine list, and has listed its turn
-pub turn-finished : (n : ℕ) (given list scratch : List ℕ) (r : ListResult) → Turns n given list scratch r → r .number ≡ finished → Fine n given × Turned n given (listedSets r)
+pub turn-finished : (n : ℕ) (given list scratch : List ℕ) (r : ListResult) → TurnGives n given list scratch r → r .number ≡ finished → Fine n given × Turned n given (listedSets r)
 turn-finished n given list scratch r p = subst Says (sym (p .says)) (cond-case Says (eqb refusal 0) taken refused)
   where
     refusal : ℕ
@@ -66,7 +66,7 @@ turn-finished n given list scratch r p = subst Says (sym (p .says)) (cond-case S
 
 -- ---- List
 
-module _ (n : ℕ) (hard soft list scratch : List ℕ) (r : ListResult) (p : Lists n hard soft list scratch r) where
+module _ (n : ℕ) (hard soft list scratch : List ℕ) (r : ListResult) (p : ListGives n hard soft list scratch r) where
   refusal : ℕ
   refusal = listRefusal n hard soft (length list) (length scratch)
 

@@ -8,7 +8,7 @@ use native.Mathlib.Omega.{arith}
 use lib.ListN.{length, getD, set, take, drop, length-append}
 use lib.Seq.{append-snoc, getD-at}
 use Rattle.numbers.proofs.Places.{front, fill-next}
-use Rattle.sets.specs.Lists.{Listed, Rising}
+use Rattle.sets.specs.Lists.{Among, Rising}
 use Rattle.turn.specs.Growing.{placed}
 
 -- ---- the list with the set in its place
@@ -23,12 +23,12 @@ either : (S R : ℕ) → ((min S R ≡ S) × (max S R ≡ R)) ⊎ ((min S R ≡ 
 either S R = by-cases (decLt S R) (λ l. inl (omega arith)) (λ l. inr (omega arith))
 
 -- the one that was put in
-pub placed-listed : (S : ℕ) (list : List ℕ) (X : ℕ) → Listed X (placed S list) ↔ ((X ≡ S) ⊎ Listed X list)
+pub placed-listed : (S : ℕ) (list : List ℕ) (X : ℕ) → Among X (placed S list) ↔ ((X ≡ S) ⊎ Among X list)
 placed-listed S [] X = ((λ h. h), λ h. h)
 placed-listed S (R ∷ list) X = go (min S R) (max S R) (either S R) (placed-listed (max S R) list X)
   where
-    go : (low high : ℕ) → ((low ≡ S) × (high ≡ R)) ⊎ ((low ≡ R) × (high ≡ S)) → Listed X (placed high list) ↔ ((X ≡ high) ⊎ Listed X list)
-        → ((X ≡ low) ⊎ Listed X (placed high list)) ↔ ((X ≡ S) ⊎ ((X ≡ R) ⊎ Listed X list))
+    go : (low high : ℕ) → ((low ≡ S) × (high ≡ R)) ⊎ ((low ≡ R) × (high ≡ S)) → Among X (placed high list) ↔ ((X ≡ high) ⊎ Among X list)
+        → ((X ≡ low) ⊎ Among X (placed high list)) ↔ ((X ≡ S) ⊎ ((X ≡ R) ⊎ Among X list))
     go low high (inl o) rest = (
       ⊎-elim (λ e. inl (e ∙ o .0)) (λ h. inr (⊎-elim (λ e. inl (e ∙ o .1)) inr (rest .0 h))),
       ⊎-elim (λ e. inl (e ∙ sym (o .0))) (λ h. inr (rest .1 (⊎-elim (λ e. inl (e ∙ sym (o .1))) inr h))),
@@ -39,16 +39,16 @@ placed-listed S (R ∷ list) X = go (min S R) (max S R) (either S R) (placed-lis
     )
 
 -- and it rises, if that one was not there
-pub placed-rising : (S : ℕ) (list : List ℕ) → Rising list → ¬ Listed S list → Rising (placed S list)
+pub placed-rising : (S : ℕ) (list : List ℕ) → Rising list → ¬ Among S list → Rising (placed S list)
 placed-rising S [] r q = ((λ R h. absurd h), tt)
 placed-rising S (R ∷ list) r q = (first, placed-rising (max S R) list (r .1) later)
   where
-    first : (X : ℕ) → Listed X (placed (max S R) list) → min S R < X
+    first : (X : ℕ) → Among X (placed (max S R) list) → min S R < X
     first X h =
         let ne : ¬ (S ≡ R) = λ e. q (inl e) in
         ⊎-elim (λ e. omega arith) (λ k. omega (arith, r .0 X k)) (placed-listed (max S R) list X .0 h)
 
-    later : ¬ Listed (max S R) list
+    later : ¬ Among (max S R) list
     later h = ⊎-elim (λ o. omega (arith, r .0 (max S R) h)) (λ o. q (inr (rw (o .1) at h))) (either S R)
 
 -- ---- how the loop does it

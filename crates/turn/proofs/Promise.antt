@@ -15,19 +15,19 @@ use Rattle.sets.proofs.Turning.{turn-unique, turn-twice, turn-of-empty, turn-of
 use Rattle.setups.specs.Setups.{setup, count, WayOut, Clash}
 use Rattle.setups.specs.Refusals.{finished, unmet}
 use Rattle.setups.specs.declared.Refusal.{Refusal}
-use Rattle.setups.specs.List.{ListResult, listedSets, without-list, givenOut, Lists}
-use Rattle.setups.specs.Turn.{turnRefusal, Turns}
+use Rattle.setups.specs.List.{ListResult, listedSets, without-list, givenOut, ListGives}
+use Rattle.setups.specs.Turn.{turnRefusal, TurnGives}
 use Rattle.setups.proofs.Duality.{clashes-turn, ways-out-turn, unmet-empty-clash}
 use Rattle.setups.proofs.Refusals.{number-only, refused-number}
 use Rattle.turn.specs.declared.Turning.{Turning}
 use Rattle.turn.specs.declared.Turning.the-variants.{Listed, Refused}
-use Rattle.turn.specs.Turning.{answered, Promises}
+use Rattle.turn.specs.Turning.{answered, Turns}
 use Rattle.turn.proofs.Computed.{turn-p4, back-p4, back-p14}
 use Rattle.turn.proofs.Finished.{turn-finished, list-finished, list-unmet}
 
 -- ---- no second result
 
-pub turns-only : (n : ℕ) (given list scratch : List ℕ) (r s : ListResult) → Turns n given list scratch r → Turns n given list scratch s → r ≡ s
+pub turns-only : (n : ℕ) (given list scratch : List ℕ) (r s : ListResult) → TurnGives n given list scratch r → TurnGives n given list scratch s → r ≡ s
 turns-only n given list scratch r s p q =
     p .says ∙ ap out (turn-unique n given (p .turned) (q .turned) (p .exact) (q .exact)) ∙ sym (q .says)
   where
@@ -47,7 +47,7 @@ answered-only (Refused a) (Refused b) list scratch listToo scratchToo e =
     (ap Refused (number-only a b (ap (λ (r : ListResult). r .number) e)), ap (λ (r : ListResult). r .list) e, ap (λ (r : ListResult). r .scratch) e)
 
 pub turn-only : (n : ℕ) (given list scratch : List ℕ) (answer other : Turning) (listAfter scratchAfter listToo scratchToo : List ℕ)
-    → Promises n given list scratch answer listAfter scratchAfter → Promises n given list scratch other listToo scratchToo
+    → Turns n given list scratch answer listAfter scratchAfter → Turns n given list scratch other listToo scratchToo
     → (answer ≡ other) × (listAfter ≡ listToo) × (scratchAfter ≡ scratchToo)
 turn-only n given list scratch answer other listAfter scratchAfter listToo scratchToo p q =
     answered-only answer other listAfter scratchAfter listToo scratchToo
@@ -55,34 +55,34 @@ turn-only n given list scratch answer other listAfter scratchAfter listToo scrat
 
 -- ---- turning twice: `given` and what came of it over the same count, both turns finished
 
-pub turned-twice : (n : ℕ) (given list scratch list′ scratch′ : List ℕ) (r s : ListResult) → Turns n given list scratch r → r .number ≡ finished
-    → Turns n (listedSets r) list′ scratch′ s → s .number ≡ finished → listedSets s ≡ given
+pub turned-twice : (n : ℕ) (given list scratch list′ scratch′ : List ℕ) (r s : ListResult) → TurnGives n given list scratch r → r .number ≡ finished
+    → TurnGives n (listedSets r) list′ scratch′ s → s .number ≡ finished → listedSets s ≡ given
 turned-twice n given list scratch list′ scratch′ r s p f q g =
     let first = turn-finished n given list scratch r p f in
     let second = turn-finished n (listedSets r) list′ scratch′ s q g in
     turn-twice n given (first .0) (listedSets r) (listedSets s) (first .1) (second .1)
 
 -- the empty list turns into the list of the empty set alone
-pub turn-empty : (n : ℕ) (list scratch : List ℕ) (r : ListResult) → Turns n [] list scratch r → r .number ≡ finished → listedSets r ≡ 0 ∷ []
+pub turn-empty : (n : ℕ) (list scratch : List ℕ) (r : ListResult) → TurnGives n [] list scratch r → r .number ≡ finished → listedSets r ≡ 0 ∷ []
 turn-empty n list scratch r p f = turn-unique n [] (listedSets r) (0 ∷ []) (turn-finished n [] list scratch r p f .1) (turn-of-empty n)
 
 -- and the other way about
-pub turn-empty-set : (n : ℕ) (list scratch : List ℕ) (r : ListResult) → Turns n (0 ∷ []) list scratch r → r .number ≡ finished → listedSets r ≡ []
+pub turn-empty-set : (n : ℕ) (list scratch : List ℕ) (r : ListResult) → TurnGives n (0 ∷ []) list scratch r → r .number ≡ finished → listedSets r ≡ []
 turn-empty-set n list scratch r p f = turn-unique n (0 ∷ []) (listedSets r) [] (turn-finished n (0 ∷ []) list scratch r p f .1) (turn-of-nothing n)
 
 -- ---- from a list of List
 
-module _ (n : ℕ) (hard soft list scratch : List ℕ) (r : ListResult) (lists : Lists n hard soft list scratch r) where
+module _ (n : ℕ) (hard soft list scratch : List ℕ) (r : ListResult) (lists : ListGives n hard soft list scratch r) where
   -- a finished one turns into exactly the clashes
   module _ (done : r .number ≡ finished) (list′ scratch′ : List ℕ) (s : ListResult)
-      (turns : Turns (count (setup n hard soft)) (listedSets r) list′ scratch′ s) (done′ : s .number ≡ finished) where
+      (turns : TurnGives (count (setup n hard soft)) (listedSets r) list′ scratch′ s) (done′ : s .number ≡ finished) where
     pub turn-clashes : Exactly (Clash (setup n hard soft)) (listedSets s)
     turn-clashes =
         clashes-turn (setup n hard soft) (listedSets r) (listedSets s) (list-finished n hard soft list scratch r lists done)
         (turn-finished (count (setup n hard soft)) (listedSets r) list′ scratch′ s turns done′ .1)
 
     -- and those turn into the ways out again
-    pub turn-ways-out : (list″ scratch″ : List ℕ) (t : ListResult) → Turns (count (setup n hard soft)) (listedSets s) list″ scratch″ t → t .number ≡ finished
+    pub turn-ways-out : (list″ scratch″ : List ℕ) (t : ListResult) → TurnGives (count (setup n hard soft)) (listedSets s) list″ scratch″ t → t .number ≡ finished
         → Exactly (WayOut (setup n hard soft)) (listedSets t) × (listedSets t ≡ listedSets r)
     turn-ways-out list″ scratch″ t again done″ =
         let turned = turn-finished (count (setup n hard soft)) (listedSets s) list″ scratch″ t again done″ .1 in
@@ -90,7 +90,7 @@ module _ (n : ℕ) (hard soft list scratch : List ℕ) (r : ListResult) (lists :
         (ways, exactly-unique (WayOut (setup n hard soft)) (listedSets t) (listedSets r) ways (list-finished n hard soft list scratch r lists done))
 
   -- under Unmet the list is empty, and its turn is the list of the empty set, the only clash
-  pub turn-unmet : r .number ≡ unmet → (list′ scratch′ : List ℕ) (s : ListResult) → Turns (count (setup n hard soft)) (listedSets r) list′ scratch′ s
+  pub turn-unmet : r .number ≡ unmet → (list′ scratch′ : List ℕ) (s : ListResult) → TurnGives (count (setup n hard soft)) (listedSets r) list′ scratch′ s
       → s .number ≡ finished → (listedSets s ≡ 0 ∷ []) × Exactly (Clash (setup n hard soft)) (listedSets s)
   turn-unmet none list′ scratch′ s turns done =
       let empty = list-unmet n hard soft list scratch r lists none in
@@ -109,31 +109,31 @@ module _ (n : ℕ) (hard soft list scratch : List ℕ) (r : ListResult) (lists :
 
 -- a result that is told to have listed some sets has listed the turn
 listed-turned : (n k : ℕ) (given list scratch listAfter scratchAfter turned : List ℕ) → Turned n given turned
-    → Promises n given list scratch (Listed k) listAfter scratchAfter → take k listAfter ≡ turned
+    → Turns n given list scratch (Listed k) listAfter scratchAfter → take k listAfter ≡ turned
 listed-turned n k given list scratch listAfter scratchAfter turned t p =
     turn-unique n given (take k listAfter) turned (turn-finished n given list scratch (answered (Listed k) listAfter scratchAfter) p refl .1) t
 
 -- a turn that copies its input, on P4's ways out
-pub turn-not-copied : (list scratch rest scratchAfter : List ℕ) → ¬ Promises 4 (5 ∷ 6 ∷ 10 ∷ []) list scratch (Listed 3) (5 ∷ 6 ∷ 10 ∷ rest) scratchAfter
+pub turn-not-copied : (list scratch rest scratchAfter : List ℕ) → ¬ Turns 4 (5 ∷ 6 ∷ 10 ∷ []) list scratch (Listed 3) (5 ∷ 6 ∷ 10 ∷ rest) scratchAfter
 turn-not-copied list scratch rest scratchAfter p =
     let e = listed-turned 4 3 (5 ∷ 6 ∷ 10 ∷ []) list scratch (5 ∷ 6 ∷ 10 ∷ rest) scratchAfter (3 ∷ 6 ∷ 12 ∷ []) turn-p4 p in
     omega (arith, ap (λ (l : List ℕ). getD l 0 0) e)
 
 -- one that skips the second turn's work: P4's clashes turn into its ways out and into no other list
-pub turn-not-skipped : (k : ℕ) (list scratch listAfter scratchAfter : List ℕ) → Promises 4 (3 ∷ 6 ∷ 12 ∷ []) list scratch (Listed k) listAfter scratchAfter
+pub turn-not-skipped : (k : ℕ) (list scratch listAfter scratchAfter : List ℕ) → Turns 4 (3 ∷ 6 ∷ 12 ∷ []) list scratch (Listed k) listAfter scratchAfter
     → take k listAfter ≡ 5 ∷ 6 ∷ 10 ∷ []
 turn-not-skipped k list scratch listAfter scratchAfter =
     listed-turned 4 k (3 ∷ 6 ∷ 12 ∷ []) list scratch listAfter scratchAfter (5 ∷ 6 ∷ 10 ∷ []) back-p4
 
 -- one that lists only the sets of fewest members, on P14's clashes
-pub turn-not-fewest : (list scratch rest scratchAfter : List ℕ) → ¬ Promises 3 (3 ∷ 5 ∷ []) list scratch (Listed 1) (1 ∷ rest) scratchAfter
+pub turn-not-fewest : (list scratch rest scratchAfter : List ℕ) → ¬ Turns 3 (3 ∷ 5 ∷ []) list scratch (Listed 1) (1 ∷ rest) scratchAfter
 turn-not-fewest list scratch rest scratchAfter p =
     let e = listed-turned 3 1 (3 ∷ 5 ∷ []) list scratch (1 ∷ rest) scratchAfter (1 ∷ 6 ∷ []) back-p14 p in
     omega (arith, ap length e)
 
 -- one that refuses everything, on P4's ways out with room for their turn
 pub turn-not-refused : (refusal : Refusal) (listAfter scratchAfter : List ℕ)
-    → ¬ Promises 4 (5 ∷ 6 ∷ 10 ∷ []) (0 ∷ 0 ∷ 0 ∷ []) (0 ∷ 0 ∷ 0 ∷ 0 ∷ []) (Refused refusal) listAfter scratchAfter
+    → ¬ Turns 4 (5 ∷ 6 ∷ 10 ∷ []) (0 ∷ 0 ∷ 0 ∷ []) (0 ∷ 0 ∷ 0 ∷ 0 ∷ []) (Refused refusal) listAfter scratchAfter
 turn-not-refused refusal listAfter scratchAfter p =
     let e = turn-unique 4 (5 ∷ 6 ∷ 10 ∷ []) (p .turned) (3 ∷ 6 ∷ 12 ∷ []) (p .exact) turn-p4 in
     refused-number refusal (ap (λ (r : ListResult). r .number) (rw e at (p .says)))

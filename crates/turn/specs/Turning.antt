@@ -5,7 +5,7 @@ use Prim.Native.Nat.{ℕ}
 use Rattle.setups.specs.Refusals.{numberOf, finished}
 use Rattle.sets.specs.Turns.{Turned}
 use Rattle.setups.specs.List.{ListResult, without-list, givenOut}
-use Rattle.setups.specs.Turn.{Turns}
+use Rattle.setups.specs.Turn.{TurnGives}
 use Rattle.setups.specs.declared.Refusal.the-variants.{TooMany}
 use Rattle.turn.specs.declared.Turning.{Turning}
 use Rattle.turn.specs.declared.Turning.the-variants.{Listed, Refused}
@@ -26,5 +26,5 @@ pub record GivesOut (n : ℕ) (given list scratch : List ℕ) (r : ListResult) :
   pub says : r ≡ givenOut turned list scratch
 
 -- The promise: over n settings, the given list and the two buffers, the answer leaves `listAfter` and `scratchAfter` in them.
-abbrev pub Promises : ℕ → List ℕ → List ℕ → List ℕ → Turning → List ℕ → List ℕ → Type 0
-Promises n given list scratch answer listAfter scratchAfter = Turns n given list scratch (answered answer listAfter scratchAfter)
+abbrev pub Turns : ℕ → List ℕ → List ℕ → List ℕ → Turning → List ℕ → List ℕ → Type 0
+Turns n given list scratch answer listAfter scratchAfter = TurnGives n given list scratch (answered answer listAfter scratchAfter)

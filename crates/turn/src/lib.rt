@@ -21,7 +21,7 @@ ghost use lib.ListN.{length, take, drop};
 ghost use Rattle.setups.specs.Limits.{settingsMost};
 ghost use Rattle.turn.specs.Branches.{Branch, TurnsOn};
 ghost use Rattle.turn.specs.Growing.{placed, Ready, Grown};
-ghost use Rattle.turn.specs.Turning.{answered, GivesOut, Promises};
+ghost use Rattle.turn.specs.Turning.{answered, GivesOut, Turns};
 
 // What Turn answers: it has listed so many sets, or refuses.
 pub enum Turning {
@@ -134,7 +134,7 @@ fn give_out(count: u32, given: &[Set], list: &mut [Set], scratch: &mut [Set]) ->
 
 // The smallest sets that share a setting with each given set.
 pub fn turn(count: u32, given: &[Set], list: &mut [Set], scratch: &mut [Set]) -> Turning
-    ensures { λ r. ⌜ Promises count (now (given .entry)) (now (list .entry)) (now (scratch .entry)) r (now (list .exit)) (now (scratch .exit)) ⌝ }
+    ensures { λ r. ⌜ Turns count (now (given .entry)) (now (list .entry)) (now (scratch .entry)) r (now (list .exit)) (now (scratch .exit)) ⌝ }
 {
     if SETTINGS_MOST < count {
         return Turning::Refused(Refusal::Softs);

@@ -11,7 +11,7 @@ use lib.Dec.{T-not, not-T}
 use lib.ListN.{getD}
 use lib.Pow.{pow-pos}
 use Rattle.sets.specs.Sets.{digit, In, Within, Smallest}
-use Rattle.sets.specs.Lists.{Listed}
+use Rattle.sets.specs.Lists.{Among}
 use Rattle.numbers.proofs.Deciding.{T-dec, any, dec-and, dec-not, stable}
 use Rattle.sets.proofs.Digits.{in-dec, in-below, digit-out, within-le, out-stays, out-within, out-differs, opposite-digit, those, those-lt, those-in, digit-up, high-digit, high-in}
 use Rattle.sets.proofs.Dual.{smallest-within}
@@ -111,7 +111,7 @@ module _ (g : Setup) (left given kept : ℕ) (found : List ℕ) (decided : Decid
           let r = high-in left (decided .highGiven) j (subst (In j) (decided .gives) h) in
           breaks-own g S (s .1) j l (rw (r .1) (same (r .0) ∙ r .2))
 
-      each : (W : ℕ) → Listed W found → (j : ℕ) × (j < count g) × In j W × SettingTrue g m j
+      each : (W : ℕ) → Among W found → (j : ℕ) × (j < count g) × In j W × SettingTrue g m j
       each W h =
           by-cases (any (count g) (λ j. In j W × ¬ In j S) (λ j. dec-and (in-dec j W) (dec-not (in-dec j S))))
           (λ t. (t .0, t .1, t .2 .0, s .1 .meets .1 .kept (t .0) (t .1) (t .2 .1))) inside
