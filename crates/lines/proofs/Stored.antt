@@ -11,28 +11,28 @@ use Rattle.numbers.proofs.Places.{front}
 use Rattle.digits.specs.Digits.{digits, bytesOf}
 use Rattle.frames.specs.Frames.{lineFeed}
 use Rattle.digits.proofs.Stores.{sets-append}
-use Rattle.lines.specs.Lines.{wayOutKind, clashKind, lastKind, setLine, setLines, lastLine, answerLines}
+use Rattle.lines.specs.Lines.{wayOutKind, clashKind, lastKind, setLine, setLines, lastLine, answerLines, setLineLength, lastLineLength}
 
--- a list of sets has 11 bytes a line
-pub lines-length : (kind : ℕ) (list : List ℕ) → length (setLines kind list) ≡ 11 * length list
+-- a list of sets takes a line for each
+pub lines-length : (kind : ℕ) (list : List ℕ) → length (setLines kind list) ≡ setLineLength * length list
 lines-length kind [] = refl
 lines-length kind (S ∷ list) =
     let h = lines-length kind list in
-    let e : length (setLine kind S ++ setLines kind list) ≡ 11 + length (setLines kind list) = length-append (setLine kind S) (setLines kind list) in
+    let e : length (setLine kind S ++ setLines kind list) ≡ setLineLength + length (setLines kind list) = length-append (setLine kind S) (setLines kind list) in
     omega (arith, h, e)
 
-pub answer-length : (outcome : ℕ) (ways clashes : List ℕ) → length (answerLines outcome ways clashes) ≡ 11 * length ways + 11 * length clashes + 13
+pub answer-length : (outcome : ℕ) (ways clashes : List ℕ) → length (answerLines outcome ways clashes) ≡ setLineLength * length ways + setLineLength * length clashes + lastLineLength
 answer-length outcome ways clashes =
     let last = lastLine outcome (length ways) (length clashes) in
-    let a : length (answerLines outcome ways clashes) ≡ length (setLines 0x40 ways ++ setLines 0x50 clashes) + length last = length-append (setLines 0x40 ways ++ setLines 0x50 clashes) last in
-    let b = length-append (setLines 0x40 ways) (setLines 0x50 clashes) in
-    let n : length last ≡ 13 = refl in
-    omega (arith, a, b, n, lines-length 0x40 ways, lines-length 0x50 clashes)
+    let a : length (answerLines outcome ways clashes) ≡ length (setLines wayOutKind ways ++ setLines clashKind clashes) + length last = length-append (setLines wayOutKind ways ++ setLines clashKind clashes) last in
+    let b = length-append (setLines wayOutKind ways) (setLines clashKind clashes) in
+    let n : length last ≡ lastLineLength = refl in
+    omega (arith, a, b, n, lines-length wayOutKind ways, lines-length clashKind clashes)
 
 -- the lines of an answer, one after the other
 pub answer-stored : (outcome : ℕ) (ways clashes t t₁ t₂ t₃ : List ℕ) (j k : ℕ)
-    → t₁ ≡ sets t 0 (setLines wayOutKind ways) → j ≡ 0 + 11 * length ways
-    → t₂ ≡ sets t₁ j (setLines clashKind clashes) → k ≡ j + 11 * length clashes
+    → t₁ ≡ sets t 0 (setLines wayOutKind ways) → j ≡ 0 + setLineLength * length ways
+    → t₂ ≡ sets t₁ j (setLines clashKind clashes) → k ≡ j + setLineLength * length clashes
     → t₃ ≡ sets t₂ k (lastLine outcome (length ways) (length clashes))
     → t₃ ≡ sets t 0 (answerLines outcome ways clashes)
 answer-stored outcome ways clashes t t₁ t₂ t₃ j k e ij f jk g =
@@ -72,11 +72,11 @@ module _ (list : List ℕ) (i kind : ℕ) (l : i < length list) where
   here : setLines kind (drop i list) ≡ setLine kind (getD list i 0) ++ setLines kind (drop (i + 1) list)
   here = rw (front list i l)
 
-  pub line-takes : length (setLines kind (drop i list)) ≡ 11 + length (setLines kind (drop (i + 1) list))
+  pub line-takes : length (setLines kind (drop i list)) ≡ setLineLength + length (setLines kind (drop (i + 1) list))
   line-takes = ap length here ∙ length-append (setLine kind (getD list i 0)) (setLines kind (drop (i + 1) list))
 
   pub one-stored : (text after : List ℕ) (to : ℕ) → after ≡ sets text to (setLine kind (getD list i 0))
-      → sets after (to + 11) (setLines kind (drop (i + 1) list)) ≡ sets text to (setLines kind (drop i list))
+      → sets after (to + setLineLength) (setLines kind (drop (i + 1) list)) ≡ sets text to (setLines kind (drop i list))
   one-stored text after to e = rw (here, e) (sym (sets-append text (setLine kind (getD list i 0)) (setLines kind (drop (i + 1) list)) to))
 
 pub none-left : (list : List ℕ) (i kind : ℕ) → length list ≤ i → setLines kind (drop i list) ≡ []

@@ -1,9 +1,10 @@
 -- The lines that are put out (document 01, "The program's lines").
 use mathlib.Core.Path.{_≡_, refl}
 use mathlib.Core.List.{List, [], _∷_, _++_}
-use Prim.Native.Nat.{ℕ, _≤_}
+use Prim.Native.Nat.{ℕ, _+_, _*_, _≤_}
 use lib.ListN.{length}
 use lib.Seq.{sets}
+use Rattle.setups.specs.Limits.{setsMost}
 use Rattle.digits.specs.Digits.{bytesOf, digitOf}
 use Rattle.frames.specs.Frames.{line}
 
@@ -39,9 +40,21 @@ answerLines outcome ways clashes =
 abbrev pub refusalLines : ℕ → List ℕ
 refusalLines number = answerLines number [] []
 
--- how long the lines of two full lists are: 11 bytes a set, and 13 for the last line
+-- how long the line of a set is, and the last line
+abbrev pub setLineLength : ℕ
+setLineLength = 11
+
+abbrev pub lastLineLength : ℕ
+lastLineLength = 13
+
+-- whatever stands in them
+example-lengths :
+    ((kind S : ℕ) → length (setLine kind S) ≡ setLineLength) × ((outcome ways clashes : ℕ) → length (lastLine outcome ways clashes) ≡ lastLineLength)
+example-lengths = (λ kind S. refl, λ outcome ways clashes. refl)
+
+-- how long the lines of two full lists are
 abbrev pub outputMost : ℕ
-outputMost = 22541
+outputMost = 2 * setsMost * setLineLength + lastLineLength
 
 -- the lines are stored from the output's first place on, `filled` bytes, and the places beyond them stay as they were
 pub record Puts (lines output : List ℕ) (filled : ℕ) (after : List ℕ) : Type 0 where

@@ -4,11 +4,11 @@ use digits::put_set;
 use frames::LINE_FEED;
 use sets::Set;
 ghost use mathlib.Core.Path.{_≡_};
-ghost use Prim.Native.Nat.{_+_, _*_, _<_, _≤_};
+ghost use Prim.Native.Nat.{_+_, _*_, _≤_};
 ghost use lib.ListN.{length};
 ghost use lib.Seq.{sets};
 ghost use Rattle.digits.specs.Digits.{digits, bytesOf};
-ghost use Rattle.lines.specs.Lines.{setLine, setLines, lastLine, answerLines, refusalLines, outputMost, Puts};
+ghost use Rattle.lines.specs.Lines.{setLine, setLines, lastLine, answerLines, refusalLines, setLineLength, lastLineLength, outputMost, Puts};
 
 // A line's first byte tells its kind: a way out, a clash, the last line.
 const WAY_OUT: u8 = 0x40;
@@ -40,7 +40,7 @@ const LAST_END: usize = LAST_LINE - 1;
 
 // Puts the line of a set.
 pub fn put_line(output: &mut [u8], at: usize, kind: u8, set: Set)
-    requires { ⌜ at + 10 < length (now output) ⌝ }
+    requires { ⌜ at + setLineLength ≤ length (now output) ⌝ }
     ensures { λ _. ⌜ now (output .exit) ≡ sets (now (output .entry)) at (setLine kind set) ⌝ }
 {
     put_byte(output, at, kind);
@@ -50,8 +50,8 @@ pub fn put_line(output: &mut [u8], at: usize, kind: u8, set: Set)
 
 // Puts a line for each set of a list, and tells the place after them.
 fn put_lines(output: &mut [u8], at: usize, kind: u8, list: &[Set]) -> usize
-    requires { ⌜ at + 11 * length (now list) ≤ length (now output) ⌝ }
-    ensures { λ r. ⌜ (r ≡ at + 11 * length (now (list .entry))) × (now (output .exit) ≡ sets (now (output .entry)) at (setLines kind (now (list .entry)))) ⌝ }
+    requires { ⌜ at + setLineLength * length (now list) ≤ length (now output) ⌝ }
+    ensures { λ r. ⌜ (r ≡ at + setLineLength * length (now (list .entry))) × (now (output .exit) ≡ sets (now (output .entry)) at (setLines kind (now (list .entry)))) ⌝ }
 {
     let mut to = at;
     let mut i = 0;
@@ -65,7 +65,7 @@ fn put_lines(output: &mut [u8], at: usize, kind: u8, list: &[Set]) -> usize
 
 // Puts a number in two bytes, the high one first.
 fn put_count(output: &mut [u8], at: usize, count: usize)
-    requires { ⌜ at + 3 < length (now output) ⌝ }
+    requires { ⌜ at + length (digits (bytesOf 2 count)) ≤ length (now output) ⌝ }
     ensures { λ _. ⌜ now (output .exit) ≡ sets (now (output .entry)) at (digits (bytesOf 2 count)) ⌝ }
 {
     put_byte(output, at, (count / BYTE % BYTE) as u8);
@@ -74,7 +74,7 @@ fn put_count(output: &mut [u8], at: usize, count: usize)
 
 // Puts the last line: the outcome, and how many ways out and clashes there are.
 pub fn put_last(output: &mut [u8], at: usize, outcome: u8, ways: usize, clashes: usize)
-    requires { ⌜ at + 12 < length (now output) ⌝ }
+    requires { ⌜ at + lastLineLength ≤ length (now output) ⌝ }
     ensures { λ _. ⌜ now (output .exit) ≡ sets (now (output .entry)) at (lastLine outcome ways clashes) ⌝ }
 {
     put_byte(output, at, LAST);

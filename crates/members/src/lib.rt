@@ -10,6 +10,7 @@ use sets::size;
 ghost use mathlib.Core.Path.{_≡_};
 ghost use mathlib.Core.Logic.{_⊎_, _≢_, _↔_};
 ghost use Prim.Native.Nat.{ℕ};
+ghost use Rattle.sets.specs.Width.{settingsMost};
 ghost use Rattle.sets.specs.Sets.{In, Share, only};
 ghost use Rattle.members.specs.Members.{Alone, Own, Finds};
 
@@ -84,7 +85,7 @@ pub fn find_unhit(members: &[Set], taken: Set, left: Set) -> Unhit
 // The next setting, of those left that are wanted. The contract says no more, so that the choice can be tuned without a proof.
 pub fn choose(left: Set) -> Setting
     requires { ⌜ left ≢ 0 ⌝ }
-    ensures { λ r. ⌜ Share left (only 32 (r .0)) ⌝ }
+    ensures { λ r. ⌜ Share left (only settingsMost (r .0)) ⌝ }
 {
     let mut number: u32 = 1;
     while !has(left, Setting(number)) {

@@ -132,10 +132,6 @@ share-sym S R h = (h .0, h .2, h .1)
 pub none-share : (S : ℕ) → ¬ Share 0 S
 none-share S h = none-in (h .0) (h .1)
 
--- what shares with a part shares with the whole
-pub share-within : (S R Q : ℕ) → Within R Q → Share S R → Share S Q
-share-within S R Q w h = (h .0, h .1, w (h .0) (h .2))
-
 -- two sets share a setting or they do not
 pub share-dec : (S R : ℕ) → Dec (Share S R)
 share-dec S R =
@@ -290,16 +286,6 @@ joins-only width i S Q l h q =
     step j =
         rw (only-place width i l)
         (⊎-elim inl (λ k. inr (power-in i j .0 k)), ⊎-elim inl (λ e. inr (power-in i j .1 e)))
-
--- S without the set of a setting that is in it is S with that setting taken out
-pub leaves-only : (width i S Q : ℕ) → i < width → In i S → Leaves S (only width (suc i)) Q → Q ≡ S - 2 ^ i
-leaves-only width i S Q l h q =
-    ext-in Q (S - 2 ^ i) (λ j. Iff·trans (q j) (Iff·trans (step j) (Iff·symm (out-in i S j h))))
-  where
-    step : (j : ℕ) → (In j S × ¬ In j (only width (suc i))) ↔ (In j S × (j ≢ i))
-    step j =
-        rw (only-place width i l)
-        ((λ k. (k .0, λ e. k .1 (power-in i j .1 e))), λ k. (k .0, λ z. k .1 (power-in i j .0 z)))
 
 -- ---- all settings, and those that pass a test
 

@@ -7,6 +7,7 @@ ghost use mathlib.Core.Bool.{true};
 ghost use mathlib.Core.Logic.{_↔_};
 ghost use Prim.Native.Nat.{_-_, _^_, min};
 ghost use lib.Count.{ones};
+ghost use Rattle.sets.specs.Width.{settingsMost};
 ghost use Rattle.sets.specs.Sets.{Share, Within, Joins, Leaves, only, AtMostOne};
 
 // A set of settings.
@@ -20,7 +21,7 @@ pub const EMPTY: Set = 0;
 
 // The set of one setting; the empty set for a number that no setting has.
 pub fn only_this(setting: Setting) -> Set
-    ensures { λ r. ⌜ r ≡ only 32 (setting .0) ⌝ }
+    ensures { λ r. ⌜ r ≡ only settingsMost (setting .0) ⌝ }
 {
     let number = setting.0;
     if number == 0 {
@@ -66,28 +67,28 @@ pub fn within(set: Set, other: Set) -> bool
 
 // The set has the setting.
 pub fn has(set: Set, setting: Setting) -> bool
-    ensures { λ r. ⌜ (r ≡ true) ↔ Share set (only 32 (setting .0)) ⌝ }
+    ensures { λ r. ⌜ (r ≡ true) ↔ Share set (only settingsMost (setting .0)) ⌝ }
 {
     meets(set, only_this(setting))
 }
 
 // The set with the setting added.
 pub fn with(set: Set, setting: Setting) -> Set
-    ensures { λ r. ⌜ Joins set (only 32 (setting .0)) r ⌝ }
+    ensures { λ r. ⌜ Joins set (only settingsMost (setting .0)) r ⌝ }
 {
     set | only_this(setting)
 }
 
 // The set with the setting taken out.
 pub fn without(set: Set, setting: Setting) -> Set
-    ensures { λ r. ⌜ Leaves set (only 32 (setting .0)) r ⌝ }
+    ensures { λ r. ⌜ Leaves set (only settingsMost (setting .0)) r ⌝ }
 {
     set & !only_this(setting)
 }
 
 // All of the first `count` settings; no shift reaches the width.
 pub fn full(count: u32) -> Set
-    ensures { λ r. ⌜ r ≡ 2 ^ min count 32 - 1 ⌝ }
+    ensures { λ r. ⌜ r ≡ 2 ^ min count settingsMost - 1 ⌝ }
 {
     if SETTINGS_MOST <= count {
         return !EMPTY;

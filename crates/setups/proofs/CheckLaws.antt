@@ -1,14 +1,14 @@
 -- The byte checks: how a walk over a buffer comes to what its definition gives, and what each check's place says.
 use mathlib.Core.Path.{_≡_, refl, sym, ap, _∙_}
 use mathlib.Core.Logic.{_↔_, Iff·trans, Iff·symm, by-cases, _≢_}
-use mathlib.Core.Bool.{Bool, true, false, not, cond, _||_, true≢false}
+use mathlib.Core.Bool.{Bool, true, false, not, cond, _||_}
 use mathlib.Core.List.{List, [], _∷_}
 use Prim.Native.Nat.{ℕ, zero, suc, _+_, _-_, _≤_, _<_, zero-le, suc-le-suc}
 use native.Mathlib.Nat.{not-suc-le-zero, le-refl, le-of-suc-le-suc, zero-lt-suc, zero-add, suc-inj, suc-ne-zero}
 use native.Mathlib.Decide.{decLt}
 use native.Mathlib.Numerals.{add-one}
 use native.Mathlib.Omega.{arith}
-use borrow.Author.Tests.{ltb-true, ltb-false, lt-ltb, le-ltb, eq-eqb, ne-eqb, le-leb, lt-leb}
+use borrow.Author.Tests.{ltb-false, lt-ltb, le-ltb, eq-eqb, ne-eqb, le-leb, lt-leb}
 use lib.Dec.{T, eqb, leb, ltb, leb·suc-suc, ltb→lt, lt→ltb}
 use lib.ListN.{length, getD, drop, drop-of-length-le}
 use Rattle.numbers.proofs.Places.{front}
@@ -107,22 +107,7 @@ first-before test (b ∷ bytes) (suc j) l =
     cond-case (λ x. suc j < x → test (getD bytes j 0) ≡ false) (test b)
     (λ e k. absurd (not-suc-le-zero k)) (λ e k. first-before test bytes j (le-of-suc-le-suc k)) l
 
--- some byte offends
-abbrev pub Offence : (ℕ → Bool) → List ℕ → Type 0
-Offence test bytes = (i : ℕ) × (i < length bytes) × (test (getD bytes i 0) ≡ true)
-
-pub first-iff : (test : ℕ → Bool) (bytes : List ℕ) → (firstPlace test bytes < length bytes) ↔ Offence test bytes
-first-iff test bytes = ((λ l. (firstPlace test bytes, l, first-at test bytes l)), from)
-  where
-    from : Offence test bytes → firstPlace test bytes < length bytes
-    from o =
-        by-cases (decLt (o .0) (firstPlace test bytes))
-        (λ l. absurd (true≢false (sym (o .2) ∙ first-before test bytes (o .0) l))) (λ l. omega (arith, o .1))
-
 -- ---- the test that a place is below the length
-
-below-iff : (p n : ℕ) → (ltb p n ≡ true) ↔ (p < n)
-below-iff p n = (ltb-true p n, lt-ltb p n)
 
 T-below : (p n : ℕ) → T (ltb p n) ↔ (p < n)
 T-below p n = (ltb→lt p n, lt→ltb p n)

@@ -1,6 +1,6 @@
 -- What the search means: it gives the first model, or none where there is none.
-use mathlib.Core.Path.{_≡_, refl, sym, _∙_, subst}
-use mathlib.Core.Logic.{_⊎_, inl, inr, ⊎-elim, _↔_, by-cases}
+use mathlib.Core.Path.{_≡_, sym, _∙_}
+use mathlib.Core.Logic.{_⊎_, inl, inr, ⊎-elim, by-cases}
 use mathlib.Core.List.{List, [], _∷_}
 use Prim.Native.Nat.{ℕ, _+_, _<_}
 use native.Mathlib.Decide.{decLt}
@@ -192,15 +192,3 @@ all-means n cs (None visits) r = λ m a t. r m (free-grows a) (assigns-full a) t
 pub search-means : (n : ℕ) (cs : List (List ℕ)) → Means n cs (search n cs)
 unfolding search
 search-means n cs = all-means n cs (visit cs (replicate n 2)) (visit-means (visits-exist cs (replicate n 2)))
-
--- It gives a model exactly where some assignment makes every clause true.
-pub search-model-iff : (n : ℕ) (cs : List (List ℕ))
-    → ((m : List ℕ) × (visits : ℕ) × (search n cs ≡ Model m visits)) ↔ ((m : List ℕ) × Assigns n m × T (allTrue m cs))
-search-model-iff n cs = (
-  (λ r. let f = subst (Means n cs) (r .2) (search-means n cs) in (r .0, f .assigns, f .holds)),
-  λ a. go a (search n cs) (search-means n cs),
-)
-  where
-    go : ((m : List ℕ) × Assigns n m × T (allTrue m cs)) → (r : Found) → Means n cs r → (m : List ℕ) × (visits : ℕ) × (r ≡ Model m visits)
-    go a (Model m visits) f = (m, visits, refl)
-    go a (None visits) f = absurd (f (a .0) (a .1) (a .2))

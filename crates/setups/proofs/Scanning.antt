@@ -1,6 +1,6 @@
 -- What the search computes at its leaves is right: the judgement of a clause, a scan, the count of free values, the lowest of them.
 use mathlib.Core.Path.{_≡_, refl, sym, ap, _∙_, subst}
-use mathlib.Core.Logic.{_⊎_, inl, inr, ⊎-elim, _≢_, _↔_, by-cases}
+use mathlib.Core.Logic.{_⊎_, inl, inr, ⊎-elim, _≢_, by-cases}
 use mathlib.Core.Bool.{false}
 use mathlib.Core.List.{List, [], _∷_}
 use Prim.Native.Nat.{ℕ, zero, suc, _≤_, _<_}
@@ -32,29 +32,9 @@ abbrev CoveredBy : List ℕ → List ℕ → List ℕ → Type 0
 CoveredBy values c d = (l : ℕ) → Among l c → Among l d ⊎ T (isFalse values l)
 
 module _ (values : List ℕ) where
-  -- a wholly false clause forces nothing
-  pub false-forces-none : (clause : List ℕ) (b : ℕ) → T (allFalse values clause) → ¬ Forces values clause b
-  false-forces-none clause b t f = free-not-false values b (f .free) (each-false values clause .0 t b (f .stands))
-
   -- where a clause forces a literal, each free literal in it is that one
   free-forced : (clause : List ℕ) (b l : ℕ) → Forces values clause b → Among l clause → T (isFree values l) → l ≡ b
   free-forced clause b l f h free = ⊎-elim (λ e. e) (λ n. absurd (free-not-false values l free n)) (f .others l h)
-
-  -- so that it forces one at most
-  pub forces-one : (clause : List ℕ) (b c : ℕ) → Forces values clause b → Forces values clause c → b ≡ c
-  forces-one clause b c f g = free-forced clause c b g (f .stands) (f .free)
-
-  -- two judgements that are right are equal
-  judged-one : (clause : List ℕ) (j k : Seen) → Judged values clause j → Judged values clause k → j ≡ k
-  judged-one clause AllFalse AllFalse p q = refl
-  judged-one clause AllFalse (OneFree b) p q = absurd (false-forces-none clause b p q)
-  judged-one clause AllFalse Enough p q = absurd (q .0 p)
-  judged-one clause (OneFree b) AllFalse p q = absurd (false-forces-none clause b q p)
-  judged-one clause (OneFree b) (OneFree c) p q = ap OneFree (forces-one clause b c p q)
-  judged-one clause (OneFree b) Enough p q = absurd (q .1 b p)
-  judged-one clause Enough AllFalse p q = absurd (p .0 q)
-  judged-one clause Enough (OneFree b) p q = absurd (p .1 b q)
-  judged-one clause Enough Enough p q = refl
 
   -- a clause that is covered by a wholly false one is wholly false
   false-carries : (c d : List ℕ) → CoveredBy values d c → T (allFalse values c) → T (allFalse values d)
@@ -133,13 +113,6 @@ module _ (values : List ℕ) where
       (λ t. still-enough (b ∷ clause) clause (true-enough (b ∷ clause) b (inl refl) (rw t tt)))
       (λ t. judged-carries clause (b ∷ clause) (judge values AllFalse clause) (λ j h. inl (inr h))
       (λ j h. ⊎-elim (λ i. inr (is-false j b i e t)) inl h) (judge-right clause)))
-
-  -- and is the only one that is
-  pub judge-iff : (clause : List ℕ) (k : Seen) → (judge values AllFalse clause ≡ k) ↔ Judged values clause k
-  judge-iff clause k = (
-    (λ e. subst (Judged values clause) e (judge-right clause)),
-    λ h. judged-one clause (judge values AllFalse clause) k (judge-right clause) h,
-  )
 
 -- ---- scans
 

@@ -1,5 +1,6 @@
--- The limits of document 01, "Setups", by name. A quantity may reach its limit and may be zero.
+-- The limits of document 01, "Setups", by name. A quantity may reach its limit and may be zero. The most settings are the width of a set.
 use Prim.Native.Nat.{ℕ}
+pub use Rattle.sets.specs.Width.{settingsMost}
 
 abbrev pub variablesMost : ℕ
 variablesMost = 64
@@ -14,9 +15,6 @@ softBytesMost = 2048
 -- in one clause, repeats counted
 abbrev pub literalsMost : ℕ
 literalsMost = 127
-
-abbrev pub settingsMost : ℕ
-settingsMost = 32
 
 -- in a list, given or lent as room
 abbrev pub setsMost : ℕ

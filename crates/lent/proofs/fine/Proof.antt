@@ -5,6 +5,7 @@ use Prim.Native.Nat.{ℕ, _≤_, _<_, _+_, _-_, _^_, min}
 use native.Mathlib.Omega.{arith}
 use borrow.Author.Tests.{not-true, not-false}
 use lib.ListN.{length, getD, drop, drop-of-length-le}
+use Rattle.sets.specs.Width.{settingsMost}
 use Rattle.sets.specs.Sets.{Within}
 use Rattle.sets.specs.Turns.{Fine}
 use Rattle.numbers.proofs.Deciding.{refuted}
@@ -13,8 +14,8 @@ use Rattle.lent.proofs.fine.Statement.{statement}
 use Rattle.lent.proofs.fine.Tie as tie
 
 -- no setting of a set is above the count
-counted : (n all S : ℕ) → S < 2 ^ 32 → all ≡ 2 ^ min n 32 - 1 → Within S all ↔ (S < 2 ^ n)
-counted n all S s e = rw e (within-count 32 n S s)
+counted : (n all S : ℕ) → S < 2 ^ settingsMost → all ≡ 2 ^ min n settingsMost - 1 → Within S all ↔ (S < 2 ^ n)
+counted n all S s e = rw e (within-count settingsMost n S s)
 
 abbrev Inv-loop : tie.InvT-loop
 Inv-loop count list all i₀ i = (i ≤ length list) × (Fine count (drop i list) ↔ Fine count list)

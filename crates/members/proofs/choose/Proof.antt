@@ -2,6 +2,7 @@
 use Prim.Native.Nat.{ℕ, suc, _-_, _≤_}
 use native.Mathlib.Omega.{arith}
 use borrow.Author.Tests.{not-true, not-false}
+use Rattle.sets.specs.Width.{settingsMost}
 use Rattle.sets.specs.Sets.{In}
 use Rattle.numbers.proofs.Deciding.{refuted}
 use Rattle.members.proofs.Lowest.{later, some-place}
@@ -12,7 +13,7 @@ abbrev Inv-loop : tie.InvT-loop
 Inv-loop left number₀ number = (j : ℕ) → In j left → number ≤ suc j
 
 abbrev μ-loop : tie.MeasureT-loop
-μ-loop left number₀ number = 32 - number
+μ-loop left number₀ number = settingsMost - number
 
 loop-holds : tie.Need-loop-holds Inv-loop μ-loop
 loop-holds c j h = omega arith
@@ -22,19 +23,19 @@ has-requires c κs = tt
 
 add-number : tie.Need-add-number Inv-loop μ-loop
 add-number c =
-    let p = some-place 32 (c .before .before .before .args .left) (omega arith) (c .before .before .before .pre) in
+    let p = some-place settingsMost (c .before .before .before .args .left) (omega arith) (c .before .before .before .pre) in
     omega (arith, c .before .before .loop .inv (p .0) (p .1))
 
 loop-less : tie.Need-loop-less Inv-loop μ-loop
 loop-less c =
     let left = c .before .before .before .args .left in
-    let p = some-place 32 left (omega arith) (c .before .before .before .pre) in
-    omega (arith, later 32 left (c .before .before .loop .number) (omega arith) (c .before .before .loop .inv) (refuted (c .before .has .ensures) (not-true (c .before .has .result) (c .if1 .taken))) (p .0) (p .1))
+    let p = some-place settingsMost left (omega arith) (c .before .before .before .pre) in
+    omega (arith, later settingsMost left (c .before .before .loop .number) (omega arith) (c .before .before .loop .inv) (refuted (c .before .has .ensures) (not-true (c .before .has .result) (c .if1 .taken))) (p .0) (p .1))
 
 loop-again : tie.Need-loop-again Inv-loop μ-loop
 loop-again c =
     let left = c .before .before .before .args .left in
-    later 32 left (c .before .before .loop .number) (omega arith) (c .before .before .loop .inv) (refuted (c .before .has .ensures) (not-true (c .before .has .result) (c .if1 .taken)))
+    later settingsMost left (c .before .before .loop .number) (omega arith) (c .before .before .loop .inv) (refuted (c .before .has .ensures) (not-true (c .before .has .result) (c .if1 .taken)))
 
 returns : tie.Need-returns Inv-loop μ-loop
 returns c = c .before .has .ensures .0 (not-false (c .before .has .result) (c .if1 .left))

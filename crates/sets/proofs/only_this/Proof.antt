@@ -2,6 +2,7 @@
 use mathlib.Core.Path.{sym, _∙_}
 use borrow.Author.Needs.{needs}
 use native.Mathlib.Omega.{arith}
+use Rattle.sets.specs.Width.{settingsMost}
 use Rattle.sets.proofs.Digits.{only-power, only-none, shifted-one}
 use Rattle.sets.proofs.only_this.Statement.{statement}
 use Rattle.sets.proofs.only_this.Tie as tie
@@ -10,7 +11,7 @@ returns : tie.Need-returns
 returns c = rw (c .if1 .taken)
 
 returns-2 : tie.Need-returns-2
-returns-2 c = sym (only-none 32 (c .before .before .args .setting .0) (omega arith))
+returns-2 c = sym (only-none settingsMost (c .before .before .args .setting .0) (omega arith))
 
 selector-of-requires : tie.Need-selector-of-requires
 selector-of-requires c κs = search needs
@@ -21,8 +22,8 @@ shl-result c = search needs
 returns-3 : tie.Need-returns-3
 returns-3 c =
     let number = c .before .before .before .before .args .setting .0 in
-    shifted-one 32 (c .before .selector-of .result .0) (omega arith)
-    ∙ rw (c .before .selector-of .ensures) (sym (only-power 32 number (omega arith) (omega arith)))
+    shifted-one settingsMost (c .before .selector-of .result .0) (omega arith)
+    ∙ rw (c .before .selector-of .ensures) (sym (only-power settingsMost number (omega arith) (omega arith)))
 
 pub only-this-spec : {M : Type 1} → statement M
 only-this-spec = tie.close (tie.spec returns returns-2 selector-of-requires shl-result returns-3)
