@@ -2,6 +2,7 @@
 // Document 01, "Setups": "Setting numbers and variable numbers are counted separately; a selector's number is neither."
 ghost use mathlib.Core.Path.{_≡_};
 ghost use Prim.Native.Nat.{_+_, _-_, _%_, _<_};
+ghost use Rattle.numbers.specs.Numbers.{negated, valuePlace};
 
 // A variable, counted from 1.
 pub struct Variable(pub u8);
@@ -20,14 +21,14 @@ pub const NEGATED: u8 = 128;
 
 // The variable that a literal byte speaks of: v for the byte v, and for 128 + v.
 pub fn variable_of(literal: u8) -> Variable
-    ensures { λ r. ⌜ r .0 ≡ literal % 128 ⌝ }
+    ensures { λ r. ⌜ r .0 ≡ literal % negated ⌝ }
 {
     Variable(literal % NEGATED)
 }
 
-// Where the variable's value stands among 64: variable v at v − 1. It is a place there whatever the number.
+// Where the variable's value stands: variable v at v − 1. It is a place whatever the number.
 pub fn value_place(variable: Variable) -> usize
-    ensures { λ r. ⌜ r ≡ (variable .0 + 63) % 64 ⌝ }
+    ensures { λ r. ⌜ r ≡ valuePlace (variable .0) ⌝ }
 {
     (variable.0 as usize + (VARIABLES_MOST - 1)) % VARIABLES_MOST
 }

@@ -1,9 +1,8 @@
--- The limits of document 01, "Setups", by name. A quantity may reach its limit and may be zero. The most settings are the width of a set.
+-- The limits of document 01, "Setups", by name. A quantity may reach its limit and may be zero. The most variables are as
+-- many as there are places for their values, the most settings the width of a set.
 use Prim.Native.Nat.{ℕ}
+pub use Rattle.numbers.specs.Numbers.{variablesMost}
 pub use Rattle.sets.specs.Width.{settingsMost}
-
-abbrev pub variablesMost : ℕ
-variablesMost = 64
 
 -- the clause bytes of an ask too
 abbrev pub hardBytesMost : ℕ
