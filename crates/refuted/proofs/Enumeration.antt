@@ -1,20 +1,27 @@
--- Algorithm 1 of document 000 loses P2, whatever its oracle answers: the first model has the one selector at 0, its block leaves no
--- other, and A is empty.
+-- Where the wrong searches go astray.
 use mathlib.Core.Path.{_≡_, refl, subst}
-use mathlib.Core.Logic.{inl}
+use mathlib.Core.Logic.{_⊎_, inl, inr, ⊎-elim}
 use mathlib.Core.List.{List, [], _∷_}
 use Prim.Native.Nat.{ℕ, _<_}
 use native.Mathlib.Decide.{ℕ-discrete}
 use native.Mathlib.Omega.{arith}
+use lib.ListN.{length}
 use Rattle.sets.specs.Sets.{Share}
+use Rattle.sets.specs.Lists.{Among, Exactly}
 use Rattle.numbers.proofs.Deciding.{stable}
-use Rattle.sets.proofs.Digits.{none-share}
+use Rattle.sets.proofs.Digits.{none-share, none-within}
+use Rattle.sets.proofs.Tests.{within-iff, listed-iff, lists-exactly}
 use Rattle.setups.specs.Setups.{Setup, setup, Together}
-use Rattle.setups.proofs.Tests.{together-iff}
+use Rattle.setups.specs.Tests.{without}
+use Rattle.setups.proofs.Tests.{together-iff, without-iff}
 use Rattle.table.specs.Rows.{neg}
-use Rattle.refuted.specs.Enumeration.{Answers, Run, finds, returns, outputs, Enumerates}
+use Rattle.table.proofs.Table.{table}
+use Rattle.refuted.specs.Enumeration.{Answers, Run, finds, returns, outputs, Enumerates, Candidate, FoundOnly, gives, stops, WayDown}
 
-abbrev pub P2 : Setup
+-- ---- Algorithm 1 of document 000 loses P2, whatever its oracle answers: the first model has the one selector at 0, its block leaves no
+-- other, and A is empty
+
+abbrev P2 : Setup
 P2 = setup 1 (neg 1 ∷ 0 ∷ []) (1 ∷ 0 ∷ [])
 
 -- the one setting has no model
@@ -40,3 +47,54 @@ first e f (outputs fails some run) = absurd (some e)
 
 pub enumeration-loses : {out : List ℕ} → Enumerates P2 out → out ≡ []
 enumeration-loses run = first refl refl run
+
+-- such a run there is
+example-enumerates : Enumerates P2 []
+example-enumerates =
+    finds {T = 0} (record { below = omega arith; assumed = none-within 0; meets = table .p2 .met; blocked = λ W h. absurd h })
+    (returns (λ T a. none-share 1 (subst (λ (T : ℕ). Share T 1) (unset a) (a .blocked 1 (inl refl)))) refl)
+
+-- ---- blocking only the found set gives out every candidate
+
+given-out : {g : Setup} {blocks out : List ℕ} → FoundOnly g blocks out → (S : ℕ) → Candidate g S → Among S blocks ⊎ Among S out
+given-out (gives {S = R} {blocks} {out} found new run) S c = moved (given-out run S c)
+  where
+    moved : Among S (R ∷ blocks) ⊎ Among S out → Among S blocks ⊎ Among S (R ∷ out)
+    moved (inl (inl e)) = inr (inl e)
+    moved (inl (inr h)) = inl h
+    moved (inr h) = inr (inr h)
+given-out (stops all) S c = inl (all S c)
+
+-- the candidates of P6: one setting or the other, or both
+abbrev P6 : Setup
+P6 = setup 1 [] (1 ∷ 0 ∷ neg 1 ∷ 0 ∷ [])
+
+candidates : Exactly (Candidate P6) (1 ∷ 2 ∷ 3 ∷ [])
+candidates =
+    lists-exactly 4 (Candidate P6) (without P6) (1 ∷ 2 ∷ 3 ∷ []) (λ S h. h .below)
+    (λ S l. ((λ t. record { below = l; meets = without-iff P6 S .0 t }), λ c. without-iff P6 S .1 (c .meets))) tt
+
+-- so that it gives out 3, which is no way out
+pub found-only-larger : {out : List ℕ} → FoundOnly P6 [] out → Among 3 out
+found-only-larger run = ⊎-elim (λ h. absurd h) (λ h. h) (given-out run 3 (candidates .exact 3 .0 (inr (inr (inl refl)))))
+
+-- such a run there is
+example-found-only : FoundOnly P6 [] (3 ∷ 2 ∷ 1 ∷ [])
+example-found-only =
+    gives (candidates .exact 3 .0 (inr (inr (inl refl)))) (listed-iff 3 [] .1)
+    (gives (candidates .exact 2 .0 (inr (inl refl))) (listed-iff 2 (3 ∷ []) .1)
+    (gives (candidates .exact 1 .0 (inl refl)) (listed-iff 1 (2 ∷ 3 ∷ []) .1) (stops (λ S. candidates .exact S .1))))
+
+-- ---- the way down from both settings of P7 has more sets than there are ways out
+
+abbrev P7 : Setup
+P7 = setup 1 [] (0 ∷ 1 ∷ 0 ∷ [])
+
+pub way-down-longer : (down : List ℕ) → WayDown P7 (3 ∷ down) → 1 < length (3 ∷ down)
+way-down-longer [] way = absurd (listed-iff 3 (1 ∷ []) .1 (table .p7 .ways-out .exact 3 .1 way))
+way-down-longer (S ∷ down) way = omega arith
+
+-- such a way there is
+example-way-down : WayDown P7 (3 ∷ 1 ∷ [])
+example-way-down =
+    (record { below = omega arith; meets = without-iff P7 3 .0 tt }, within-iff 2 1 3 (omega arith) .0 tt, (λ e. omega arith), table .p7 .ways-out .exact 1 .0 (inl refl))

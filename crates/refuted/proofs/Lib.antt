@@ -1,3 +1,8 @@
 -- The refutations.
-pub mod Enumeration
+
+-- of both jobs
+mod Programs
+-- where the wrong searches go astray
+mod Enumeration
+-- for List
 pub mod Lists

@@ -1,125 +1,106 @@
 -- The wrong programs for List are refuted: each comes to a row of the table, where the promise has one result.
-use mathlib.Core.Path.{_≡_, refl, sym, ap, _∙_, subst}
+use mathlib.Core.Path.{_≡_, refl, sym, ap, _∙_}
 use mathlib.Core.Logic.{inl}
 use mathlib.Core.Bool.{true}
 use mathlib.Core.List.{List, [], _∷_}
 use Prim.Native.Nat.{ℕ}
 use native.Mathlib.Omega.{arith}
-use lib.ListN.{length, getD, take}
-use Rattle.setups.specs.Refusals.{finished}
-use Rattle.setups.specs.Setups.{setup}
+use lib.ListN.{length, drop}
+use Rattle.sets.proofs.Tests.{listed-iff}
+use Rattle.setups.specs.Setups.{Setup, setup}
 use Rattle.setups.specs.List.{ListResult, givenOut, listRefusal, listed, ListGives}
 use Rattle.setups.specs.Tests.{together}
 use Rattle.setups.proofs.Tests.{together-iff}
 use Rattle.setups.proofs.Duality.{ways-out-exist}
-use Rattle.setups.proofs.Refusals.{refused-number}
-use Rattle.table.specs.Rows.{neg, Row, P14-hard, P14-soft}
+use Rattle.table.specs.Rows.{neg, Row}
 use Rattle.table.proofs.Table.{table}
-use Rattle.refuted.specs.Lists.{Program, Keeps, RefusesAll, WritesNothing, Claim, Always, AnswersP4, VariesFirst, MakesUpCount, ListsFewest, DropsEqual, ListsEnumerated}
-use Rattle.refuted.proofs.Enumeration.{enumeration-loses}
 use Rattle.list.proofs.Promise.{result-only}
+use Rattle.refuted.specs.Programs.{Program, RefusesAll, WritesNothing}
+use Rattle.refuted.specs.Lists.{KeepsList, AnswersP4, VariesFirst, MakesUpCount, ListsEnumerated, BlocksFoundOnly, KeepsCandidates, ListsFewest, GivesUpUnset, DropsEqual}
+use Rattle.refuted.proofs.Programs.{room, work, first-alike, Gives, at, not-refusing, not-silent}
+use Rattle.refuted.proofs.Enumeration.{enumeration-loses, found-only-larger, way-down-longer}
 
--- the promise can be kept
-right : Program
-right n hard soft list scratch =
-    listed (listRefusal n hard soft (length list) (length scratch)) (together (setup n hard soft) 0) (ways-out-exist (setup n hard soft) .0) list scratch
-
-pub list-kept : (P : Program) × Keeps P
-unfolding right
-list-kept = (
-  right,
-  λ n hard soft list scratch.
-      let g = setup n hard soft in
-      let ways = ways-out-exist g in
+-- some result meets the promise, whatever the arguments
+lists-exist : (n : ℕ) (hard soft list scratch : List ℕ) → (r : ListResult) × ListGives n hard soft list scratch r
+lists-exist n hard soft list scratch =
+    let g = setup n hard soft in
+    let ways = ways-out-exist g in (
+      listed (listRefusal n hard soft (length list) (length scratch)) (together g 0) (ways .0) list scratch,
       record { ways = ways .0; exact = ways .1; met = together g 0; meets = together-iff g 0; says = refl },
+    )
+
+-- so some program keeps it
+pub list-kept : (P : Program Setup) × KeepsList P
+list-kept = (
+  (λ g list scratch. lists-exist (g .variables) (g .hard) (g .soft) list scratch .0),
+  λ g list scratch. lists-exist (g .variables) (g .hard) (g .soft) list scratch .1,
 )
 
--- where a row of the table is taken, it has this one result
-row-result : {n : ℕ} {hard soft ways clashes : List ℕ} → Row (setup n hard soft) ways clashes → (list scratch : List ℕ)
-    → listRefusal n hard soft (length list) (length scratch) ≡ 0 → {r : ListResult} → ListGives n hard soft list scratch r → r ≡ givenOut ways list scratch
-row-result {n} {hard} {soft} {ways} row list scratch e {r} p =
-    result-only n hard soft list scratch r (givenOut ways list scratch) p
-    (record { ways = ways; exact = row .ways-out; met = true; meets = ((λ t. row .met), λ t. tt); says = rw e })
+-- on a row of the table the program has this one result, in any buffers and in ours
+module _ {P : Program Setup} (keeps : KeepsList P) {g : Setup} {ways clashes : List ℕ} (row : Row g ways clashes) where
+  lent : (list scratch : List ℕ) → listRefusal (g .variables) (g .hard) (g .soft) (length list) (length scratch) ≡ 0 → Gives P g list scratch (givenOut ways list scratch)
+  lent list scratch e = record {
+    so =
+        result-only (g .variables) (g .hard) (g .soft) list scratch (P g list scratch) (givenOut ways list scratch) (keeps g list scratch)
+        (record { ways = ways; exact = row .ways-out; met = true; meets = ((λ t. row .met), λ t. tt); says = rw e });
+  }
 
--- two places and a scratch of three, before the call
-abbrev room : List ℕ
-room = 7 ∷ 8 ∷ []
-
-abbrev work : List ℕ
-work = 9 ∷ 9 ∷ 9 ∷ []
-
--- a claim of every list holds at a row
-at : {claim : Claim} {P : Program} → Always claim P → (n : ℕ) (hard soft ways : List ℕ) → P n hard soft room work ≡ givenOut ways room work
-    → (let r = givenOut ways room work in r .number ≡ finished → claim n hard soft (length room) (r .filled) (take (r .filled) (r .list)))
-at {claim} always n hard soft ways e =
-    subst (λ (r : ListResult). r .number ≡ finished → claim n hard soft (length room) (r .filled) (take (r .filled) (r .list))) e (always .holds n hard soft room work)
-
-module _ (P : Program) (keeps : Keeps P) where
-  on-P2 : P 1 (neg 1 ∷ 0 ∷ []) (1 ∷ 0 ∷ []) room work ≡ givenOut (1 ∷ []) room work
-  on-P2 = row-result (table .p2) room work refl (keeps 1 (neg 1 ∷ 0 ∷ []) (1 ∷ 0 ∷ []) room work)
-
-  on-P5 : P 1 (neg 1 ∷ 0 ∷ []) (1 ∷ 0 ∷ 1 ∷ 0 ∷ []) room work ≡ givenOut (3 ∷ []) room work
-  on-P5 = row-result (table .p5) room work refl (keeps 1 (neg 1 ∷ 0 ∷ []) (1 ∷ 0 ∷ 1 ∷ 0 ∷ []) room work)
-
-  on-P6 : P 1 [] (1 ∷ 0 ∷ neg 1 ∷ 0 ∷ []) room work ≡ givenOut (1 ∷ 2 ∷ []) room work
-  on-P6 = row-result (table .p6) room work refl (keeps 1 [] (1 ∷ 0 ∷ neg 1 ∷ 0 ∷ []) room work)
-
-  on-P14 : P 3 P14-hard P14-soft room work ≡ givenOut (1 ∷ 6 ∷ []) room work
-  on-P14 = row-result (table .p14) room work refl (keeps 3 P14-hard P14-soft room work)
+  on : listRefusal (g .variables) (g .hard) (g .soft) 3 4 ≡ 0 → Gives P g room work (givenOut ways room work)
+  on e = lent room work e
 
 -- ---- the refutations
 
-pub list-not-refusing : (P : Program) → RefusesAll P → ¬ Keeps P
-list-not-refusing P wrong keeps =
-    let refused = wrong 1 (neg 1 ∷ 0 ∷ []) (1 ∷ 0 ∷ []) room work in
-    refused-number (refused .0) (sym (refused .1) ∙ ap (λ (r : ListResult). r .number) (on-P2 P keeps))
+pub list-not-refusing : (P : Program Setup) → RefusesAll Setup P → ¬ KeepsList P
+list-not-refusing P wrong keeps = not-refusing (on keeps (table .p2) refl) refl wrong
 
-pub list-not-silent : (P : Program) → WritesNothing P → ¬ Keeps P
-list-not-silent P wrong keeps =
-    let stays = sym (wrong 1 (neg 1 ∷ 0 ∷ []) (1 ∷ 0 ∷ []) room work .0) ∙ ap (λ (r : ListResult). r .list) (on-P2 P keeps) in
-    let e : _≡_ {A = ℕ} 7 1 = ap (λ (l : List ℕ). getD l 0 0) stays in
-    omega arith
+pub list-not-silent : (P : Program Setup) → WritesNothing Setup P → ¬ KeepsList P
+list-not-silent P wrong keeps = not-silent (on keeps (table .p2) refl) (λ e. omega (arith, first-alike e)) wrong
 
-pub list-not-P4 : (P : Program) → AnswersP4 P → ¬ Keeps P
-list-not-P4 P wrong keeps =
-    let listed = at wrong 1 (neg 1 ∷ 0 ∷ []) (1 ∷ 0 ∷ []) (1 ∷ []) (on-P2 P keeps) refl in
-    let e : _≡_ {A = ℕ} 1 5 = ap (λ (l : List ℕ). getD l 0 0) listed in
-    omega arith
+pub list-not-P4 : (P : Program Setup) → AnswersP4 P → ¬ KeepsList P
+list-not-P4 P wrong keeps = omega (arith, first-alike (at (on keeps (table .p2) refl) wrong refl))
 
--- P6 and P14 begin alike, with 1, and go on with 2 and with 6
-pub list-not-varied : (more : ℕ → ℕ → List ℕ) (P : Program) → VariesFirst more P → ¬ Keeps P
+-- P6 and P7 differ only in what the settings are, and begin alike, with 1; P6 goes on
+pub list-not-varied : (more : ℕ → List ℕ → ℕ → ℕ → ℕ → List ℕ) (P : Program Setup) → VariesFirst more P → ¬ KeepsList P
 list-not-varied more P wrong keeps =
-    let two = at wrong 1 [] (1 ∷ 0 ∷ neg 1 ∷ 0 ∷ []) (1 ∷ 2 ∷ []) (on-P6 P keeps) refl in
-    let six = at wrong 3 P14-hard P14-soft (1 ∷ 6 ∷ []) (on-P14 P keeps) refl in
-    let e : _≡_ {A = ℕ} 2 6 = next 2 (two .0) (two .1) ∙ sym (next 6 (six .0) (six .1)) in
-    omega arith
+    let two = next (at (on keeps (table .p6) refl) wrong refl) in
+    let one = next (at (on keeps (table .p7) refl) wrong refl) in
+    omega (arith, ap length (two ∙ sym one))
   where
-    next : (S first : ℕ) → 1 ∷ S ∷ [] ≡ first ∷ more first 2 → S ≡ getD (more 1 2) 0 0
-    next S first e =
-        let f : 1 ≡ first = ap (λ (l : List ℕ). getD l 0 0) e in
-        ap (λ (l : List ℕ). getD l 1 0) e ∙ rw (← f)
+    next : {S : ℕ} {others : List ℕ} → ((first : ℕ) × (S ∷ others ≡ first ∷ more 1 [] 2 3 first)) → others ≡ more 1 [] 2 3 S
+    next {S} (first, e) = let f : S ≡ first = first-alike e in ap (drop 1) e ∙ rw f
 
--- P2 has one way out, and P6 two
-pub list-not-counted : (made : ℕ → ℕ) (P : Program) → MakesUpCount made P → ¬ Keeps P
-list-not-counted made P wrong keeps =
-    let one = at wrong 1 (neg 1 ∷ 0 ∷ []) (1 ∷ 0 ∷ []) (1 ∷ []) (on-P2 P keeps) refl in
-    let two = at wrong 1 [] (1 ∷ 0 ∷ neg 1 ∷ 0 ∷ []) (1 ∷ 2 ∷ []) (on-P6 P keeps) refl in
-    let e : _≡_ {A = ℕ} 1 2 = one ∙ sym two in
-    omega arith
+-- one has two ways out, and the other one
+pub list-not-made-up : (made : ℕ → List ℕ → ℕ → ℕ → ℕ) (P : Program Setup) → MakesUpCount made P → ¬ KeepsList P
+list-not-made-up made P wrong keeps = omega (arith, at (on keeps (table .p6) refl) wrong refl, at (on keeps (table .p7) refl) wrong refl)
 
-pub list-not-fewest : (P : Program) → ListsFewest P → ¬ Keeps P
-list-not-fewest P wrong keeps =
-    let fewest = at wrong 3 P14-hard P14-soft (1 ∷ 6 ∷ []) (on-P14 P keeps) refl (1 ∷ 6 ∷ []) (table .p14 .ways-out) in
-    let e : _≡_ {A = ℕ} 2 1 = ap length fewest in
-    omega arith
-
-pub list-not-dropping : (P : Program) → DropsEqual P → ¬ Keeps P
-list-not-dropping P wrong keeps =
-    let same = wrong 1 (neg 1 ∷ 0 ∷ []) (1 ∷ 0 ∷ []) room work (ap (λ (r : ListResult). r .number) (on-P5 P keeps)) in
-    let e : _≡_ {A = ℕ} 3 1 = ap (λ (r : ListResult). getD (r .list) 0 0) (sym (on-P5 P keeps) ∙ same ∙ on-P2 P keeps) in
-    omega arith
-
-pub list-not-enumerated : (P : Program) → ListsEnumerated P → ¬ Keeps P
+pub list-not-enumerated : (P : Program Setup) → ListsEnumerated P → ¬ KeepsList P
 list-not-enumerated P wrong keeps =
-    let given = at wrong 1 (neg 1 ∷ 0 ∷ []) (1 ∷ 0 ∷ []) (1 ∷ []) (on-P2 P keeps) refl in
+    let given = at (on keeps (table .p2) refl) wrong refl in
     rw (enumeration-loses (given .1)) at (given .2 1 .0 (inl refl))
+
+-- P6: 3 would be listed
+pub list-not-found-only : (P : Program Setup) → BlocksFoundOnly P → ¬ KeepsList P
+list-not-found-only P wrong keeps =
+    let given = at (on keeps (table .p6) refl) wrong refl in
+    listed-iff 3 (1 ∷ 2 ∷ []) .1 (given .2 3 .1 (found-only-larger (given .1)))
+
+-- P7 in room 1: the one way out fits, and no way down to it
+pub list-not-candidates : (P : Program Setup) → KeepsCandidates P → ¬ KeepsList P
+list-not-candidates P wrong keeps =
+    let kept = at (lent keeps (table .p7) (7 ∷ []) (6 ∷ 6 ∷ []) refl) wrong refl in
+    omega (arith, kept .2, way-down-longer (kept .0) (kept .1))
+
+pub list-not-fewest : (P : Program Setup) → ListsFewest P → ¬ KeepsList P
+list-not-fewest P wrong keeps =
+    let fewest = at (on keeps (table .p14) refl) wrong refl (1 ∷ 6 ∷ []) (table .p14 .ways-out) in
+    omega (arith, ap length fewest)
+
+-- P7: 3 would be listed
+pub list-not-unset : (P : Program Setup) → GivesUpUnset P → ¬ KeepsList P
+list-not-unset P wrong keeps = listed-iff 3 (1 ∷ []) .1 (at (on keeps (table .p7) refl) wrong refl)
+
+pub list-not-dropping : (P : Program Setup) → DropsEqual P → ¬ KeepsList P
+list-not-dropping P wrong keeps =
+    let twice = on keeps (table .p5) refl .so in
+    let same = wrong 1 (neg 1 ∷ 0 ∷ []) (1 ∷ 0 ∷ []) room work (ap (λ (r : ListResult). r .number) twice) in
+    omega (arith, first-alike (ap (λ (r : ListResult). r .list) (sym twice ∙ same ∙ on keeps (table .p2) refl .so)))

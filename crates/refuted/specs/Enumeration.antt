@@ -1,12 +1,25 @@
--- Algorithm 1 of document 000, as it stands there, over any answers of its oracle. Sets stand for sets of selectors: A is the candidate
--- for what is kept, B the candidate for what is given up.
-use mathlib.Core.Path.{_≡_}
+-- The wrong searches for ways out: Algorithm 1 of document 000, as it stands there, over any answers of its oracle; one that blocks only
+-- the found set; and the way down from a candidate to a way out.
+use mathlib.Core.Path.{_≡_, refl}
 use mathlib.Core.Logic.{_≢_}
 use mathlib.Core.List.{List, [], _∷_}
 use Prim.Native.Nat.{ℕ, _-_, _^_, _<_}
 use Rattle.sets.specs.Sets.{Within, Share}
 use Rattle.sets.specs.Lists.{Among}
-use Rattle.setups.specs.Setups.{Setup, count, Together}
+use Rattle.setups.specs.Setups.{Setup, setup, count, Together, Without, WayOut}
+
+-- all the settings, and those outside T
+abbrev pub all : Setup → ℕ
+all g = 2 ^ count g - 1
+
+abbrev pub rest : Setup → ℕ → ℕ
+rest g T = all g - T
+
+-- of two settings 3 is all, and 2 lies outside 1
+example-rest : (all (setup 0 [] (0 ∷ 0 ∷ [])) ≡ 3) × (rest (setup 0 [] (0 ∷ 0 ∷ [])) 1 ≡ 2)
+example-rest = (refl, refl)
+
+-- ---- Algorithm 1. Sets stand for sets of selectors: A is the candidate for what is kept, B the candidate for what is given up
 
 -- the oracle may answer with a model whose selectors at 1 are T: all of A are, the settings of T are true, and each block has one of T
 pub record Answers (g : Setup) (A : ℕ) (blocks : List ℕ) (T : ℕ) : Type 0 where
@@ -19,10 +32,6 @@ pub record Answers (g : Setup) (A : ℕ) (blocks : List ℕ) (T : ℕ) : Type 0 
 abbrev pub Fails : Setup → ℕ → List ℕ → Type 0
 Fails g A blocks = (T : ℕ) → ¬ Answers g A blocks T
 
--- the selectors at 0: what is not in T
-abbrev pub rest : Setup → ℕ → ℕ
-rest g T = 2 ^ count g - 1 - T
-
 -- a run from A, B and the blocks, with all that it gives out: lines 6 to 10, line 12, and lines 14 and 15
 pub data Run (g : Setup) : ℕ → ℕ → List ℕ → List ℕ → Type 0 where
   finds : {A B T : ℕ} {blocks out : List ℕ} → Answers g A blocks T → Run g T (rest g T) (rest g T ∷ blocks) out → Run g A B blocks out
@@ -32,3 +41,22 @@ pub data Run (g : Setup) : ℕ → ℕ → List ℕ → List ℕ → Type 0 wher
 -- the whole of it, from lines 3 and 4
 abbrev pub Enumerates : Setup → List ℕ → Type 0
 Enumerates g out = Run g 0 0 [] out
+
+-- ---- candidates
+
+-- a set of the settings that can be given up
+pub record Candidate (g : Setup) (S : ℕ) : Type 0 where
+  pub below : S < 2 ^ count g
+  pub meets : Without g S
+
+-- a run that blocks only the set it has found, and not the supersets: while some candidate is not blocked, any one such is given out.
+-- P6: 3, 2, 1 (`example-found-only`)
+pub data FoundOnly (g : Setup) : List ℕ → List ℕ → Type 0 where
+  gives : {S : ℕ} {blocks out : List ℕ} → Candidate g S → ¬ Among S blocks → FoundOnly g (S ∷ blocks) out → FoundOnly g blocks (S ∷ out)
+  stops : {blocks : List ℕ} → ((S : ℕ) → Candidate g S → Among S blocks) → FoundOnly g blocks []
+
+-- a way down: candidates, each a proper subset of the one before it, and the last a way out. P7: 3, 1 (`example-way-down`)
+abbrev pub WayDown : Setup → List ℕ → Type 0
+WayDown g [] = ⊥
+WayDown g (S ∷ []) = WayOut g S
+WayDown g (S ∷ R ∷ down) = Candidate g S × Within R S × (R ≢ S) × WayDown g (R ∷ down)

@@ -1,3 +1,8 @@
 -- The wrong programs of document 01, "How tight the promises are" and "Traps we or the papers fell into".
-pub mod Lists
+
+-- of both jobs
+pub mod Programs
+-- the searches that lead List astray
 pub mod Enumeration
+-- for List
+pub mod Lists

@@ -1,91 +1,58 @@
--- Programs for List, as what they give back for all arguments, and the wrong ones.
-use mathlib.Core.Path.{_≡_, refl}
+-- The wrong programs for List.
+use mathlib.Core.Path.{_≡_}
 use mathlib.Core.Logic.{_↔_}
-use mathlib.Core.Bool.{cond}
 use mathlib.Core.List.{List, [], _∷_, _++_}
-use Prim.Native.Nat.{ℕ, zero, suc, _+_, min}
-use lib.Dec.{eqb}
-use lib.ListN.{length, take}
-use Rattle.sets.specs.Sets.{digit}
+use Prim.Native.Nat.{ℕ, _≤_}
+use lib.ListN.{length}
 use Rattle.sets.specs.Lists.{Among, Exactly}
-use Rattle.setups.specs.declared.Refusal.{Refusal}
-use Rattle.setups.specs.Refusals.{numberOf, finished}
-use Rattle.setups.specs.Setups.{setup, count, WayOut}
-use Rattle.setups.specs.List.{ListResult, ListGives}
-use Rattle.refuted.specs.Enumeration.{Enumerates}
-
--- the variable count, the hard and the soft bytes, the list buffer and the scratch give a result
-abbrev pub Program : Type 0
-Program = ℕ → List ℕ → List ℕ → List ℕ → List ℕ → ListResult
+use Rattle.setups.specs.Refusals.{finished}
+use Rattle.setups.specs.Setups.{Setup, setup, count, WayOut}
+use Rattle.setups.specs.List.{ListGives}
+use Rattle.refuted.specs.Programs.{Program, Always, fewest}
+use Rattle.refuted.specs.Enumeration.{Enumerates, all, FoundOnly, WayDown}
 
 -- the program keeps List's promise
-abbrev pub Keeps : Program → Type 0
-Keeps P = (n : ℕ) (hard soft list scratch : List ℕ) → ListGives n hard soft list scratch (P n hard soft list scratch)
-
--- it refuses everything
-abbrev pub RefusesAll : Program → Type 0
-RefusesAll P = (n : ℕ) (hard soft list scratch : List ℕ) → (r : Refusal) × (P n hard soft list scratch .number ≡ numberOf r)
-
--- it writes nothing
-abbrev pub WritesNothing : Program → Type 0
-WritesNothing P =
-    (n : ℕ) (hard soft list scratch : List ℕ) → (P n hard soft list scratch .list ≡ list) × (P n hard soft list scratch .scratch ≡ scratch)
-
--- what is said of an answer Listed: the arguments, the room, the number of places filled and what they hold
-abbrev pub Claim : Type 1
-Claim = (n : ℕ) (hard soft : List ℕ) (room filled : ℕ) (listed : List ℕ) → Type 0
-
--- the claim holds of every answer Listed, whatever else the program refuses or answers
-pub record Always (claim : Claim) (P : Program) : Type 0 where
-  pub holds : (n : ℕ) (hard soft list scratch : List ℕ)
-      → (let r = P n hard soft list scratch in r .number ≡ finished → claim n hard soft (length list) (r .filled) (take (r .filled) (r .list)))
+abbrev pub KeepsList : Program Setup → Type 0
+KeepsList P = (g : Setup) (list scratch : List ℕ) → ListGives (g .variables) (g .hard) (g .soft) list scratch (P g list scratch)
 
 -- it answers P4's list to all
-abbrev pub AnswersP4 : Program → Type 0
-AnswersP4 = Always (λ n hard soft room filled listed. listed ≡ 5 ∷ 6 ∷ 10 ∷ [])
+abbrev pub AnswersP4 : Program Setup → Type 0
+AnswersP4 = Always (λ g room filled listed. listed ≡ 5 ∷ 6 ∷ 10 ∷ [])
 
--- it finds the first way out, and repeats or varies it without search: what follows depends on the first and the room alone
-abbrev pub VariesFirst : (ℕ → ℕ → List ℕ) → Program → Type 0
-VariesFirst more = Always (λ n hard soft room filled listed. (first : ℕ) × (listed ≡ first ∷ more first room))
+-- it finds the first way out, and repeats or varies it without search: what follows is made from that one and from everything but what the
+-- settings are (the variable count, the hard bytes, the number of settings and the room)
+abbrev pub VariesFirst : (ℕ → List ℕ → ℕ → ℕ → ℕ → List ℕ) → Program Setup → Type 0
+VariesFirst more =
+    Always (λ g room filled listed. (first : ℕ) × (listed ≡ first ∷ more (g .variables) (g .hard) (count g) room first))
 
--- its list count is made up, from the room
-abbrev pub MakesUpCount : (ℕ → ℕ) → Program → Type 0
-MakesUpCount made = Always (λ n hard soft room filled listed. filled ≡ made room)
+-- its list count is made up, from everything but what the settings are
+abbrev pub MakesUpCount : (ℕ → List ℕ → ℕ → ℕ → ℕ) → Program Setup → Type 0
+MakesUpCount made = Always (λ g room filled listed. filled ≡ made (g .variables) (g .hard) (count g) room)
 
--- how many of the first n settings a set has, the fewest that a set of the list has, and the sets of the list that have so many
-abbrev pub members : ℕ → ℕ → ℕ
-members zero S = 0
-members (suc n) S = digit S n + members n S
-
-abbrev pub fewestOf : ℕ → List ℕ → ℕ
-fewestOf n [] = n
-fewestOf n (S ∷ list) = min (members n S) (fewestOf n list)
-
-abbrev pub having : ℕ → ℕ → List ℕ → List ℕ
-having n size [] = []
-having n size (S ∷ list) = cond (eqb (members n S) size) (S ∷ having n size list) (having n size list)
-
-abbrev pub fewest : ℕ → List ℕ → List ℕ
-fewest n list = having n (fewestOf n list) list
-
--- of 1, 5, 6 only 1 has a single setting
-example-fewest : fewest 3 (1 ∷ 5 ∷ 6 ∷ []) ≡ 1 ∷ []
-example-fewest = refl
-
--- it lists only the ways out with the fewest settings
-abbrev pub ListsFewest : Program → Type 0
-ListsFewest =
-    Always (λ n hard soft room filled listed.
-    (let g = setup n hard soft in (ways : List ℕ) → Exactly (WayOut g) ways → listed ≡ fewest (count g) ways))
-
--- it drops an equal setting: what the soft bytes hold twice counts once
-abbrev pub DropsEqual : Program → Type 0
-DropsEqual P =
-    (n : ℕ) (hard soft list scratch : List ℕ)
-    → (let r = P n hard (soft ++ soft) list scratch in r .number ≡ finished → r ≡ P n hard soft list scratch)
+-- ---- the traps, in document 01's order
 
 -- it lists what Algorithm 1 of document 000 gives out
-abbrev pub ListsEnumerated : Program → Type 0
-ListsEnumerated =
-    Always (λ n hard soft room filled listed.
-    (out : List ℕ) × Enumerates (setup n hard soft) out × ((S : ℕ) → Among S listed ↔ Among S out))
+abbrev pub ListsEnumerated : Program Setup → Type 0
+ListsEnumerated = Always (λ g room filled listed. (out : List ℕ) × Enumerates g out × ((S : ℕ) → Among S listed ↔ Among S out))
+
+-- it blocks only the found set, so that larger sets are listed
+abbrev pub BlocksFoundOnly : Program Setup → Type 0
+BlocksFoundOnly = Always (λ g room filled listed. (out : List ℕ) × FoundOnly g [] out × ((S : ℕ) → Among S listed ↔ Among S out))
+
+-- it keeps a block for every candidate on its way down from all the settings, whichever way that is, and answers Listed only where they fit
+abbrev pub KeepsCandidates : Program Setup → Type 0
+KeepsCandidates = Always (λ g room filled listed. (down : List ℕ) × WayDown g (all g ∷ down) × (length (all g ∷ down) ≤ room))
+
+-- it lists only the ways out with the fewest settings
+abbrev pub ListsFewest : Program Setup → Type 0
+ListsFewest = Always (λ g room filled listed. (ways : List ℕ) → Exactly (WayOut g) ways → listed ≡ fewest (count g) ways)
+
+-- it reads selector 0 as "this setting is false", and gives it up without another ask: in the first model, 0 before 1, all selectors are 0
+abbrev pub GivesUpUnset : Program Setup → Type 0
+GivesUpUnset = Always (λ g room filled listed. Among (all g) listed)
+
+-- it drops an equal setting: what the soft bytes hold twice counts once
+abbrev pub DropsEqual : Program Setup → Type 0
+DropsEqual P =
+    (n : ℕ) (hard soft list scratch : List ℕ)
+    → (let r = P (setup n hard (soft ++ soft)) list scratch in r .number ≡ finished → r ≡ P (setup n hard soft) list scratch)

@@ -1,0 +1,53 @@
+-- Programs for List and for Turn, as what they give back for all arguments, and what the wrong ones of both jobs have in common.
+use mathlib.Core.Path.{_≡_, refl}
+use mathlib.Core.Bool.{cond}
+use mathlib.Core.List.{List, [], _∷_}
+use Prim.Native.Nat.{ℕ, zero, suc, _+_, min}
+use lib.Dec.{eqb}
+use lib.ListN.{length}
+use Rattle.sets.specs.Sets.{digit}
+use Rattle.setups.specs.declared.Refusal.{Refusal}
+use Rattle.setups.specs.Refusals.{numberOf, finished}
+use Rattle.setups.specs.List.{ListResult, listedSets}
+
+-- an input, the list buffer and the scratch give a result: List's input is a setup, Turn's a settings count with a list of sets
+abbrev pub Program : Type 0 → Type 0
+Program Input = Input → List ℕ → List ℕ → ListResult
+
+-- it refuses everything
+abbrev pub RefusesAll : (Input : Type 0) → Program Input → Type 0
+RefusesAll Input P = (input : Input) (list scratch : List ℕ) → (r : Refusal) × (P input list scratch .number ≡ numberOf r)
+
+-- it writes nothing
+abbrev pub WritesNothing : (Input : Type 0) → Program Input → Type 0
+WritesNothing Input P =
+    (input : Input) (list scratch : List ℕ) → (P input list scratch .list ≡ list) × (P input list scratch .scratch ≡ scratch)
+
+-- what is said of an answer Listed: the input, the room, the number of places filled and the sets that they hold
+abbrev pub Claim : Type 0 → Type 1
+Claim Input = (input : Input) (room filled : ℕ) (listed : List ℕ) → Type 0
+
+-- the claim holds of every answer Listed, whatever else the program refuses or answers
+pub record Always {Input : Type 0} (claim : Claim Input) (P : Program Input) : Type 0 where
+  pub holds : (input : Input) (list scratch : List ℕ)
+      → (let r = P input list scratch in r .number ≡ finished → claim input (length list) (r .filled) (listedSets r))
+
+-- how many of the first n settings a set has, the fewest that a set of the list has, and the sets of the list that have so many
+abbrev pub members : ℕ → ℕ → ℕ
+members zero S = 0
+members (suc n) S = digit S n + members n S
+
+abbrev pub fewestOf : ℕ → List ℕ → ℕ
+fewestOf n [] = n
+fewestOf n (S ∷ list) = min (members n S) (fewestOf n list)
+
+abbrev pub having : ℕ → ℕ → List ℕ → List ℕ
+having n size [] = []
+having n size (S ∷ list) = cond (eqb (members n S) size) (S ∷ having n size list) (having n size list)
+
+abbrev pub fewest : ℕ → List ℕ → List ℕ
+fewest n list = having n (fewestOf n list) list
+
+-- of 1, 5, 6 only 1 has a single setting
+example-fewest : fewest 3 (1 ∷ 5 ∷ 6 ∷ []) ≡ 1 ∷ []
+example-fewest = refl
