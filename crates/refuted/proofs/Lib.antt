@@ -6,3 +6,5 @@ mod Programs
 mod Enumeration
 -- for List
 pub mod Lists
+-- for Turn
+pub mod Turns

@@ -6,3 +6,5 @@ pub mod Programs
 pub mod Enumeration
 -- for List
 pub mod Lists
+-- for Turn
+pub mod Turns

@@ -1,0 +1,98 @@
+-- The wrong programs for Turn are refuted: each comes to a row of the table, whose ways out and clashes turn into each other.
+use mathlib.Core.Path.{_≡_, refl, sym, ap, _∙_, subst}
+use mathlib.Core.Bool.{cond}
+use mathlib.Core.List.{List, [], _∷_}
+use Prim.Native.Nat.{ℕ}
+use native.Mathlib.Omega.{arith}
+use lib.Dec.{eqb}
+use lib.ListN.{length}
+use Rattle.sets.specs.Lists.{Exactly}
+use Rattle.sets.specs.Turns.{Turned}
+use Rattle.sets.proofs.Lists.{exactly-unique}
+use Rattle.sets.proofs.Turning.{turn-exists}
+use Rattle.setups.specs.Setups.{Setup, count, WayOut, Clash}
+use Rattle.setups.specs.List.{ListResult, without-list, givenOut}
+use Rattle.setups.specs.Turn.{turnRefusal, TurnGives}
+use Rattle.setups.proofs.Duality.{clashes-turn, ways-out-turn}
+use Rattle.table.specs.Rows.{Row}
+use Rattle.table.proofs.Table.{table}
+use Rattle.turn.proofs.Promise.{turns-only}
+use Rattle.refuted.specs.Programs.{Program, RefusesAll, WritesNothing}
+use Rattle.refuted.specs.Turns.{Given, over, KeepsTurn, Copies, MakesUpCount, SkipsSecond, TurnsFewest}
+use Rattle.refuted.proofs.Programs.{room, work, first-alike, Gives, at, not-refusing, not-silent}
+
+-- some result meets the promise, whatever the arguments
+turns-exist : (n : ℕ) (given list scratch : List ℕ) → (r : ListResult) × TurnGives n given list scratch r
+turns-exist n given list scratch =
+    let turned = turn-exists n given in
+    let refusal = turnRefusal n given (length list) (length scratch) in (
+      cond (eqb refusal 0) (givenOut (turned .0) list scratch) (without-list refusal list scratch),
+      record { turned = turned .0; exact = turned .1; says = refl },
+    )
+
+-- so some program keeps it
+pub turn-kept : (P : Program Given) × KeepsTurn P
+turn-kept = (
+  (λ given list scratch. turns-exist (given .settings) (given .sets) list scratch .0),
+  λ given list scratch. turns-exist (given .settings) (given .sets) list scratch .1,
+)
+
+-- ---- on a row of the table
+
+-- a list is the turn where it holds exactly what the turn is proved to hold
+turned-so : (Q : ℕ → Type 0) (n : ℕ) (given sets : List ℕ) → ((turned : List ℕ) → Turned n given turned → Exactly Q turned) → Exactly Q sets → Turned n given sets
+turned-so Q n given sets law exact =
+    let turned = turn-exists n given in
+    subst (Turned n given) (exactly-unique Q (turned .0) sets (law (turned .0) (turned .1)) exact) (turned .1)
+
+-- so the ways out turn into the clashes, and these into the ways out
+module _ {g : Setup} {ways clashes : List ℕ} (row : Row g ways clashes) where
+  to-clashes : Turned (count g) ways clashes
+  to-clashes = turned-so (Clash g) (count g) ways clashes (λ turned. clashes-turn g ways turned (row .ways-out)) (row .clash)
+
+  to-ways : Turned (count g) clashes ways
+  to-ways = turned-so (WayOut g) (count g) clashes ways (λ turned. ways-out-turn g clashes turned (row .clash)) (row .ways-out)
+
+-- and there the program has this one result
+module _ {P : Program Given} (keeps : KeepsTurn P) where
+  on : (n : ℕ) (given turned : List ℕ) → Turned n given turned → turnRefusal n given 3 4 ≡ 0 → Gives P (over n given) room work (givenOut turned room work)
+  on n given turned exact e = record {
+    so =
+        turns-only n given room work (P (over n given) room work) (givenOut turned room work) (keeps (over n given) room work)
+        (record { turned = turned; exact = exact; says = rw e });
+  }
+
+  module _ {g : Setup} {ways clashes : List ℕ} (row : Row g ways clashes) where
+    on-ways : turnRefusal (count g) ways 3 4 ≡ 0 → Gives P (over (count g) ways) room work (givenOut clashes room work)
+    on-ways = on (count g) ways clashes (to-clashes row)
+
+    on-clashes : turnRefusal (count g) clashes 3 4 ≡ 0 → Gives P (over (count g) clashes) room work (givenOut ways room work)
+    on-clashes = on (count g) clashes ways (to-ways row)
+
+-- ---- the refutations
+
+pub turn-not-refusing : (P : Program Given) → RefusesAll Given P → ¬ KeepsTurn P
+turn-not-refusing P wrong keeps = not-refusing (on-ways keeps (table .p4) refl) refl wrong
+
+pub turn-not-silent : (P : Program Given) → WritesNothing Given P → ¬ KeepsTurn P
+turn-not-silent P wrong keeps = not-silent (on-ways keeps (table .p4) refl) (λ e. omega (arith, first-alike e)) wrong
+
+-- P4's ways out 5, 6, 10 turn into 3, 6, 12
+pub turn-not-copied : (P : Program Given) → Copies P → ¬ KeepsTurn P
+turn-not-copied P wrong keeps = omega (arith, first-alike (at (on-ways keeps (table .p4) refl) wrong refl))
+
+-- over two settings P5's way out 3 turns into 1, 2 and P7's way out 1 into 1
+pub turn-not-made-up : (made : ℕ → ℕ → ℕ → ℕ) (P : Program Given) → MakesUpCount made P → ¬ KeepsTurn P
+turn-not-made-up made P wrong keeps = omega (arith, at (on-ways keeps (table .p5) refl) wrong refl, at (on-ways keeps (table .p7) refl) wrong refl)
+
+-- over two settings P6's clash 3 turns into 1, 2 and P7's clash 1 into 1
+pub turn-not-skipped : (made : ℕ → ℕ → ℕ → List ℕ) (P : Program Given) → SkipsSecond made P → ¬ KeepsTurn P
+turn-not-skipped made P wrong keeps =
+    let two = at (on-clashes keeps (table .p6) refl) wrong refl _ refl (table .p6 .clash) in
+    let one = at (on-clashes keeps (table .p7) refl) wrong refl _ refl (table .p7 .clash) in
+    omega (arith, ap length (two ∙ sym one))
+
+-- P14's clashes 3, 5 turn into 1, 6
+pub turn-not-fewest : (P : Program Given) → TurnsFewest P → ¬ KeepsTurn P
+turn-not-fewest P wrong keeps =
+    omega (arith, ap length (at (on-clashes keeps (table .p14) refl) wrong refl (1 ∷ 6 ∷ []) (to-ways (table .p14))))
