@@ -16,7 +16,7 @@ use Rattle.setups.specs.Tests.{without}
 use Rattle.setups.proofs.Tests.{together-iff, without-iff}
 use Rattle.table.specs.Rows.{neg}
 use Rattle.table.proofs.Table.{table}
-use Rattle.refuted.specs.Enumeration.{Answers, Run, finds, returns, outputs, Enumerates, Candidate, FoundOnly, gives, stops, WayDown}
+use Rattle.refuted.specs.Enumeration.{OracleAnswers, Run, finds, returns, outputs, Enumerates, Candidate, FoundOnly, gives, stops, WayDown}
 
 -- ---- Algorithm 1 of document 000 loses P2, whatever its oracle answers: the first model has the one selector at 0, its block leaves no
 -- other, and A is empty
@@ -29,7 +29,7 @@ alone : ¬ Together P2 1
 alone t = together-iff P2 1 .1 t
 
 -- so every answer has its selector at 0
-unset : {A T : ℕ} {blocks : List ℕ} → Answers P2 A blocks T → T ≡ 0
+unset : {A T : ℕ} {blocks : List ℕ} → OracleAnswers P2 A blocks T → T ≡ 0
 unset {A} {T} {blocks} a =
     let low : T < 2 = a .below in
     stable (ℕ-discrete T 0) (λ n. alone (subst (Together P2) (let e : T ≡ 1 = omega arith in e) (a .meets)))

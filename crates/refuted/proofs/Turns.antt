@@ -18,7 +18,7 @@ use Rattle.table.specs.Rows.{Row}
 use Rattle.table.proofs.Table.{table}
 use Rattle.turn.proofs.Promise.{turns-only}
 use Rattle.refuted.specs.Programs.{Program, RefusesAll, WritesNothing}
-use Rattle.refuted.specs.Turns.{Given, over, KeepsTurn, Copies, MakesUpCount, SkipsSecond, TurnsFewest}
+use Rattle.refuted.specs.Turns.{Given, givenOver, KeepsTurn, Copies, CopiesBack, MakesUpTurnCount, SkipsSecond, TurnsFewest}
 use Rattle.refuted.proofs.Programs.{room, work, first-alike, Gives, at, not-refusing, not-silent}
 
 -- some result meets the promise, whatever the arguments
@@ -55,18 +55,18 @@ module _ {g : Setup} {ways clashes : List ℕ} (row : Row g ways clashes) where
 
 -- and there the program has this one result
 module _ {P : Program Given} (keeps : KeepsTurn P) where
-  on : (n : ℕ) (given turned : List ℕ) → Turned n given turned → turnRefusal n given 3 4 ≡ 0 → Gives P (over n given) room work (givenOut turned room work)
+  on : (n : ℕ) (given turned : List ℕ) → Turned n given turned → turnRefusal n given 3 4 ≡ 0 → Gives P (givenOver n given) room work (givenOut turned room work)
   on n given turned exact e = record {
     so =
-        turns-only n given room work (P (over n given) room work) (givenOut turned room work) (keeps (over n given) room work)
+        turns-only n given room work (P (givenOver n given) room work) (givenOut turned room work) (keeps (givenOver n given) room work)
         (record { turned = turned; exact = exact; says = rw e });
   }
 
   module _ {g : Setup} {ways clashes : List ℕ} (row : Row g ways clashes) where
-    on-ways : turnRefusal (count g) ways 3 4 ≡ 0 → Gives P (over (count g) ways) room work (givenOut clashes room work)
+    on-ways : turnRefusal (count g) ways 3 4 ≡ 0 → Gives P (givenOver (count g) ways) room work (givenOut clashes room work)
     on-ways = on (count g) ways clashes (to-clashes row)
 
-    on-clashes : turnRefusal (count g) clashes 3 4 ≡ 0 → Gives P (over (count g) clashes) room work (givenOut ways room work)
+    on-clashes : turnRefusal (count g) clashes 3 4 ≡ 0 → Gives P (givenOver (count g) clashes) room work (givenOut ways room work)
     on-clashes = on (count g) clashes ways (to-ways row)
 
 -- ---- the refutations
@@ -81,8 +81,12 @@ turn-not-silent P wrong keeps = not-silent (on-ways keeps (table .p4) refl) (λ 
 pub turn-not-copied : (P : Program Given) → Copies P → ¬ KeepsTurn P
 turn-not-copied P wrong keeps = omega (arith, first-alike (at (on-ways keeps (table .p4) refl) wrong refl))
 
+-- and these turn back
+pub turn-not-copied-back : (P : Program Given) → CopiesBack P → ¬ KeepsTurn P
+turn-not-copied-back P wrong keeps = omega (arith, first-alike (at (on-clashes keeps (table .p4) refl) wrong refl _ refl (table .p4 .clash)))
+
 -- over two settings P5's way out 3 turns into 1, 2 and P7's way out 1 into 1
-pub turn-not-made-up : (made : ℕ → ℕ → ℕ → ℕ) (P : Program Given) → MakesUpCount made P → ¬ KeepsTurn P
+pub turn-not-made-up : (made : ℕ → ℕ → ℕ → ℕ) (P : Program Given) → MakesUpTurnCount made P → ¬ KeepsTurn P
 turn-not-made-up made P wrong keeps = omega (arith, at (on-ways keeps (table .p5) refl) wrong refl, at (on-ways keeps (table .p7) refl) wrong refl)
 
 -- over two settings P6's clash 3 turns into 1, 2 and P7's clash 1 into 1

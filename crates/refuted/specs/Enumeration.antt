@@ -9,20 +9,20 @@ use Rattle.sets.specs.Lists.{Among}
 use Rattle.setups.specs.Setups.{Setup, setup, count, Together, Without, WayOut}
 
 -- all the settings, and those outside T
-abbrev pub all : Setup → ℕ
-all g = 2 ^ count g - 1
+abbrev pub allSettings : Setup → ℕ
+allSettings g = 2 ^ count g - 1
 
 abbrev pub rest : Setup → ℕ → ℕ
-rest g T = all g - T
+rest g T = allSettings g - T
 
 -- of two settings 3 is all, and 2 lies outside 1
-example-rest : (all (setup 0 [] (0 ∷ 0 ∷ [])) ≡ 3) × (rest (setup 0 [] (0 ∷ 0 ∷ [])) 1 ≡ 2)
+example-rest : (allSettings (setup 0 [] (0 ∷ 0 ∷ [])) ≡ 3) × (rest (setup 0 [] (0 ∷ 0 ∷ [])) 1 ≡ 2)
 example-rest = (refl, refl)
 
 -- ---- Algorithm 1. Sets stand for sets of selectors: A is the candidate for what is kept, B the candidate for what is given up
 
 -- the oracle may answer with a model whose selectors at 1 are T: all of A are, the settings of T are true, and each block has one of T
-pub record Answers (g : Setup) (A : ℕ) (blocks : List ℕ) (T : ℕ) : Type 0 where
+pub record OracleAnswers (g : Setup) (A : ℕ) (blocks : List ℕ) (T : ℕ) : Type 0 where
   pub below : T < 2 ^ count g
   pub assumed : Within A T
   pub meets : Together g T
@@ -30,11 +30,11 @@ pub record Answers (g : Setup) (A : ℕ) (blocks : List ℕ) (T : ℕ) : Type 0 
 
 -- the oracle has no answer
 abbrev pub Fails : Setup → ℕ → List ℕ → Type 0
-Fails g A blocks = (T : ℕ) → ¬ Answers g A blocks T
+Fails g A blocks = (T : ℕ) → ¬ OracleAnswers g A blocks T
 
 -- a run from A, B and the blocks, with all that it gives out: lines 6 to 10, line 12, and lines 14 and 15
 pub data Run (g : Setup) : ℕ → ℕ → List ℕ → List ℕ → Type 0 where
-  finds : {A B T : ℕ} {blocks out : List ℕ} → Answers g A blocks T → Run g T (rest g T) (rest g T ∷ blocks) out → Run g A B blocks out
+  finds : {A B T : ℕ} {blocks out : List ℕ} → OracleAnswers g A blocks T → Run g T (rest g T) (rest g T ∷ blocks) out → Run g A B blocks out
   returns : {A B : ℕ} {blocks : List ℕ} → Fails g A blocks → A ≡ 0 → Run g A B blocks []
   outputs : {A B : ℕ} {blocks out : List ℕ} → Fails g A blocks → A ≢ 0 → Run g 0 B blocks out → Run g A B blocks (B ∷ out)
 

@@ -9,7 +9,7 @@ use Rattle.setups.specs.Refusals.{finished}
 use Rattle.setups.specs.Setups.{Setup, setup, count, WayOut}
 use Rattle.setups.specs.List.{ListGives}
 use Rattle.refuted.specs.Programs.{Program, Always, fewest}
-use Rattle.refuted.specs.Enumeration.{Enumerates, all, FoundOnly, WayDown}
+use Rattle.refuted.specs.Enumeration.{Enumerates, allSettings, FoundOnly, WayDown}
 
 -- the program keeps List's promise
 abbrev pub KeepsList : Program Setup → Type 0
@@ -41,7 +41,7 @@ BlocksFoundOnly = Always (λ g room filled listed. (out : List ℕ) × FoundOnly
 
 -- it keeps a block for every candidate on its way down from all the settings, whichever way that is, and answers Listed only where they fit
 abbrev pub KeepsCandidates : Program Setup → Type 0
-KeepsCandidates = Always (λ g room filled listed. (down : List ℕ) × WayDown g (all g ∷ down) × (length (all g ∷ down) ≤ room))
+KeepsCandidates = Always (λ g room filled listed. (down : List ℕ) × WayDown g (allSettings g ∷ down) × (length (allSettings g ∷ down) ≤ room))
 
 -- it lists only the ways out with the fewest settings
 abbrev pub ListsFewest : Program Setup → Type 0
@@ -49,7 +49,7 @@ ListsFewest = Always (λ g room filled listed. (ways : List ℕ) → Exactly (Wa
 
 -- it reads selector 0 as "this setting is false", and gives it up without another ask: in the first model, 0 before 1, all selectors are 0
 abbrev pub GivesUpUnset : Program Setup → Type 0
-GivesUpUnset = Always (λ g room filled listed. Among (all g) listed)
+GivesUpUnset = Always (λ g room filled listed. Among (allSettings g) listed)
 
 -- it drops an equal setting: what the soft bytes hold twice counts once
 abbrev pub DropsEqual : Program Setup → Type 0

@@ -33,17 +33,17 @@ pub record Always {Input : Type 0} (claim : Claim Input) (P : Program Input) : T
       → (let r = P input list scratch in r .number ≡ finished → claim input (length list) (r .filled) (listedSets r))
 
 -- how many of the first n settings a set has, the fewest that a set of the list has, and the sets of the list that have so many
-abbrev pub members : ℕ → ℕ → ℕ
-members zero S = 0
-members (suc n) S = digit S n + members n S
+abbrev pub sizeOf : ℕ → ℕ → ℕ
+sizeOf zero S = 0
+sizeOf (suc n) S = digit S n + sizeOf n S
 
 abbrev pub fewestOf : ℕ → List ℕ → ℕ
 fewestOf n [] = n
-fewestOf n (S ∷ list) = min (members n S) (fewestOf n list)
+fewestOf n (S ∷ list) = min (sizeOf n S) (fewestOf n list)
 
 abbrev pub having : ℕ → ℕ → List ℕ → List ℕ
 having n size [] = []
-having n size (S ∷ list) = cond (eqb (members n S) size) (S ∷ having n size list) (having n size list)
+having n size (S ∷ list) = cond (eqb (sizeOf n S) size) (S ∷ having n size list) (having n size list)
 
 abbrev pub fewest : ℕ → List ℕ → List ℕ
 fewest n list = having n (fewestOf n list) list

@@ -14,8 +14,8 @@ pub record Given : Type 0 where
   pub settings : ℕ
   pub sets : List ℕ
 
-abbrev pub over : ℕ → List ℕ → Given
-over n sets = record { settings = n; sets = sets }
+abbrev pub givenOver : ℕ → List ℕ → Given
+givenOver n sets = record { settings = n; sets = sets }
 
 -- the program keeps Turn's promise
 abbrev pub KeepsTurn : Program Given → Type 0
@@ -25,9 +25,13 @@ KeepsTurn P = (given : Given) (list scratch : List ℕ) → TurnGives (given .se
 abbrev pub Copies : Program Given → Type 0
 Copies = Always (λ given room filled listed. listed ≡ given .sets)
 
+-- it copies only on the second turn: given the clashes of a setup, it lists these
+abbrev pub CopiesBack : Program Given → Type 0
+CopiesBack = Always (λ given room filled listed. (g : Setup) → count g ≡ given .settings → Exactly (Clash g) (given .sets) → listed ≡ given .sets)
+
 -- its list count is made up, from everything but what the given sets are: the settings count, how many sets are given, and the room
-abbrev pub MakesUpCount : (ℕ → ℕ → ℕ → ℕ) → Program Given → Type 0
-MakesUpCount made = Always (λ given room filled listed. filled ≡ made (given .settings) (length (given .sets)) room)
+abbrev pub MakesUpTurnCount : (ℕ → ℕ → ℕ → ℕ) → Program Given → Type 0
+MakesUpTurnCount made = Always (λ given room filled listed. filled ≡ made (given .settings) (length (given .sets)) room)
 
 -- it skips the second turn's work: given the clashes of a setup, what it lists is made from everything but what the clashes are
 abbrev pub SkipsSecond : (ℕ → ℕ → ℕ → List ℕ) → Program Given → Type 0
