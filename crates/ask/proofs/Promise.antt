@@ -1,27 +1,29 @@
 -- What an ask's promise says of each answer, and that it allows no second result.
-use mathlib.Core.Path.{_≡_, sym, ap, _∙_, subst}
-use mathlib.Core.Logic.{_⊎_, inl, inr, ⊎-elim, _≢_, _↔_, by-cases}
-use mathlib.Core.List.{List, _++_}
+use mathlib.Core.Path.{_≡_, refl, sym, ap, _∙_}
+use mathlib.Core.Logic.{_≢_, _↔_}
+use mathlib.Core.List.{List}
 use Prim.Native.Nat.{ℕ, _≤_, _<_}
-use native.Mathlib.Decide.{ℕ-discrete, decLt}
 use native.Mathlib.Omega.{arith}
-use borrow.Author.Tests.{lt-ltb, le-ltb, ne-eqb}
+use borrow.Author.Tests.{eqb-false, ltb-true, ltb-false}
+use lib.Dec.{ltb, eqb}
 use lib.ListN.{length, take, drop, replicate}
 use lib.Seq.{take-at, drop-at}
+use Rattle.numbers.proofs.Deciding.{cond-case}
 use Rattle.setups.specs.declared.Refusal.{Refusal}
 use Rattle.setups.specs.declared.Refusal.the-variants.{Spent}
 use Rattle.setups.specs.Search as search
 use Rattle.setups.specs.Searching as searching
 use Rattle.setups.specs.Meaning.{Means}
-use Rattle.setups.specs.Ask.{AskResult, askClauses, askRefusal, found, askResult}
+use Rattle.setups.specs.Written.{written}
+use Rattle.setups.specs.Ask.{AskResult, askClauses, askRefusal, searchedResult, askResult}
 use Rattle.setups.proofs.Models.{search-means}
 use Rattle.setups.proofs.Refusals.{number-only, refused-number, refused-not-none}
-use Rattle.setups.proofs.Visits.{visits-exist, visitsOf}
+use Rattle.setups.proofs.Visits.{visits-exist, visits-only, visitsOf}
 use Rattle.ask.specs.declared.Asked.{Asked}
 use Rattle.ask.specs.declared.Asked.the-variants.{Model, None, Refused}
-use Rattle.ask.specs.Asking.{answered, Asks, Searched, ModelSays, NoneSays}
+use Rattle.ask.specs.Asking.{answered, Asks}
+use Rattle.ask.specs.Meaning.{Searched, ModelSays, NoneSays}
 use Rattle.ask.proofs.Refusing.{refusal-not-none}
-use Rattle.ask.proofs.Answering.{found-result}
 
 -- ---- no second result
 
@@ -52,153 +54,101 @@ pub ask-only : (n : ℕ) (bytes assumed : List ℕ) (budget : ℕ) (places : Lis
     → (answer ≡ other) × (after ≡ later)
 ask-only n bytes assumed budget places answer other after later p q = answered-only answer other after later (p ∙ sym q)
 
--- ---- what comes from the search
+-- ---- where a result comes from
 
-pub model-not-refused : (visits : ℕ) (refusal : Refusal) → Model visits ≢ Refused refusal
-model-not-refused visits refusal e = let z : _≡_ {A = ℕ} 0 1 = cc in omega arith
+-- what the search of document 01 gives, and what it means
+record Ends (n : ℕ) (bytes assumed : List ℕ) (r : search.Found) : Type 0 where
+  searched : Searched n bytes assumed r
+  means : Means n (askClauses bytes assumed) r
 
-none-not-refused : (visits : ℕ) (refusal : Refusal) → None visits ≢ Refused refusal
-none-not-refused visits refusal e = let z : _≡_ {A = ℕ} 0 1 = cc in omega arith
-
--- the search has ended within the budget, with a model that was written, or with none
-record EndsModel (n budget : ℕ) (places : List ℕ) (r : search.Found) (visits : ℕ) (after : List ℕ) : Type 0 where
-  pub m : List ℕ
-  pub is : r ≡ search.Model m visits
-  pub written : after ≡ m ++ drop n places
-  pub within : visits ≤ budget
-
-record EndsNone (budget : ℕ) (places : List ℕ) (r : search.Found) (visits : ℕ) (after : List ℕ) : Type 0 where
-  pub is : r ≡ search.None visits
-  pub kept : after ≡ places
-  pub within : visits ≤ budget
-
-module _ (n budget : ℕ) (places : List ℕ) where
-  -- what is given back of a search above the budget, and of one within it
-  found-spent : (r : search.Found) → budget < visitsOf r → answered (Refused Spent) places ≡ found n budget places r
-  found-spent (search.Model m visits) h = rw (lt-ltb budget visits h)
-  found-spent (search.None visits) h = rw (lt-ltb budget visits h)
-
-  found-model : (m : List ℕ) (visits : ℕ) → visits ≤ budget
-      → found n budget places (search.Model m visits) ≡ answered (Model visits) (m ++ drop n places)
-  found-model m visits h = rw (le-ltb budget visits h)
-
-  found-none : (visits : ℕ) → visits ≤ budget → found n budget places (search.None visits) ≡ answered (None visits) places
-  found-none visits h = rw (le-ltb budget visits h)
-
-  -- so that Spent says that it is above
-  spent-above : (r : search.Found) → answered (Refused Spent) places ≡ found n budget places r → budget < visitsOf r
-  spent-above (search.Model m visits) e =
-      by-cases (decLt budget visits) (λ l. l) (λ k. absurd (omega (arith, number-so (e ∙ found-model m visits (omega arith)))))
-  spent-above (search.None visits) e =
-      by-cases (decLt budget visits) (λ l. l) (λ k. absurd (omega (arith, number-so (e ∙ found-none visits (omega arith)))))
-
-  -- and any other answer that it is within
-  others-within : (r : search.Found) (answer : Asked) (after : List ℕ) → answer ≢ Refused Spent
-      → answered answer after ≡ found n budget places r → visitsOf r ≤ budget
-  others-within r answer after d e =
-      by-cases (decLt budget (visitsOf r))
-      (λ l. absurd (d (answered-only answer (Refused Spent) after places (e ∙ sym (found-spent r l)) .0))) (λ k. omega arith)
-
-  model-ends : (r : search.Found) (visits : ℕ) (after : List ℕ) → answered (Model visits) after ≡ found n budget places r
-      → EndsModel n budget places r visits after
-  model-ends r visits after e = go r e (others-within r (Model visits) after (model-not-refused visits Spent) e)
-    where
-      go : (r : search.Found) → answered (Model visits) after ≡ found n budget places r → visitsOf r ≤ budget
-          → EndsModel n budget places r visits after
-      go (search.Model m v) e l =
-          let f = e ∙ found-model m v l in
-          record { m = m; is = ap (search.Model m) (sym (visits-so f)); written = model-so f; within = omega (arith, visits-so f) }
-      go (search.None v) e l = absurd (omega (arith, number-so (e ∙ found-none v l)))
-
-  none-ends : (r : search.Found) (visits : ℕ) (after : List ℕ) → answered (None visits) after ≡ found n budget places r
-      → EndsNone budget places r visits after
-  none-ends r visits after e = go r e (others-within r (None visits) after (none-not-refused visits Spent) e)
-    where
-      go : (r : search.Found) → answered (None visits) after ≡ found n budget places r → visitsOf r ≤ budget
-          → EndsNone budget places r visits after
-      go (search.Model m v) e l = absurd (omega (arith, number-so (e ∙ found-model m v l)))
-      go (search.None v) e l =
-          let f = e ∙ found-none v l in
-          record { is = ap search.None (sym (visits-so f)); kept = model-so f; within = omega (arith, visits-so f) }
-
-  refused-ends : (r : search.Found) (refusal : Refusal) (after : List ℕ) → answered (Refused refusal) after ≡ found n budget places r
-      → after ≡ places
-  refused-ends (search.Model m v) refusal after e =
-      by-cases (decLt budget v) (λ l. model-so (e ∙ sym (found-spent (search.Model m v) l)))
-      (λ k. absurd (refused-number refusal (number-so (e ∙ found-model m v (omega arith)))))
-  refused-ends (search.None v) refusal after e =
-      by-cases (decLt budget v) (λ l. model-so (e ∙ sym (found-spent (search.None v) l))) (λ k. model-so (e ∙ found-none v (omega arith)))
-
--- ---- what each answer says
+-- a result comes from a refusal before the search, or from the search, above the budget or within it
+data Comes (n : ℕ) (bytes assumed : List ℕ) (budget : ℕ) (places : List ℕ) (x : AskResult) : Type 0 where
+  refuses : askRefusal n bytes assumed (length places) ≢ 0 → x ≡ record { number = askRefusal n bytes assumed (length places); visits = 0; model = places }
+      → Comes n bytes assumed budget places x
+  spends : (r : search.Found) → Ends n bytes assumed r → budget < visitsOf r → x ≡ answered (Refused Spent) places → Comes n bytes assumed budget places x
+  models : (m : List ℕ) (visits : ℕ) → Ends n bytes assumed (search.Model m visits) → visits ≤ budget → x ≡ answered (Model visits) (written m places)
+      → Comes n bytes assumed budget places x
+  fails : (visits : ℕ) → Ends n bytes assumed (search.None visits) → visits ≤ budget → x ≡ answered (None visits) places → Comes n bytes assumed budget places x
 
 module _ (n : ℕ) (bytes assumed : List ℕ) (budget : ℕ) (places : List ℕ) where
-  -- the refusal before the search, 0 where none is given
-  refusal : ℕ
-  refusal = askRefusal n bytes assumed (length places)
+  comes : (x : AskResult) → x ≡ askResult n bytes assumed budget places → Comes n bytes assumed budget places x
+  unfolding askResult searching.search
+  comes x = cond-case (λ (y : AskResult). x ≡ y → Comes n bytes assumed budget places x) (eqb refusal 0) (λ t. searched (searching.search n cs) ends) (λ t. refuses (eqb-false refusal 0 t))
+    where
+      refusal : ℕ
+      refusal = askRefusal n bytes assumed (length places)
 
-  result : search.Found
-  result = searching.search n (askClauses bytes assumed)
+      cs : List (List ℕ)
+      cs = askClauses bytes assumed
 
-  -- a result comes from that refusal, or from the search
-  comes-from : (r : AskResult) → r ≡ askResult n bytes assumed budget places
-      → ((refusal ≢ 0) × (r ≡ record { number = refusal; visits = 0; model = places })) ⊎ (r ≡ found n budget places result)
-  unfolding askResult refusal result
-  comes-from r e =
-      by-cases (ℕ-discrete refusal 0) (λ z. inr (e ∙ sym (found-result n bytes assumed budget places (sym z))))
-      (λ s. inl (s, e ∙ rw (ne-eqb refusal 0 s)))
+      ends : Ends n bytes assumed (searching.search n cs)
+      ends = record { searched = visits-exist cs (replicate n 2); means = search-means n cs }
 
-  -- what the search has found means what it is to mean, and is what the search of document 01 gives
-  means : (r : search.Found) → result ≡ r → Means n (askClauses bytes assumed) r
-  unfolding result
-  means r e = subst (Means n (askClauses bytes assumed)) e (search-means n (askClauses bytes assumed))
+      searched : (r : search.Found) → Ends n bytes assumed r → x ≡ searchedResult budget places r → Comes n bytes assumed budget places x
+      searched (search.Model m visits) end =
+          cond-case (λ (y : AskResult). x ≡ y → Comes n bytes assumed budget places x) (ltb budget visits)
+          (λ t. spends (search.Model m visits) end (ltb-true budget visits t)) (λ t. models m visits end (ltb-false budget visits t))
+      searched (search.None visits) end =
+          cond-case (λ (y : AskResult). x ≡ y → Comes n bytes assumed budget places x) (ltb budget visits)
+          (λ t. spends (search.None visits) end (ltb-true budget visits t)) (λ t. fails visits end (ltb-false budget visits t))
 
-  searched : (r : search.Found) → result ≡ r → Searched n bytes assumed r
-  unfolding result searching.search
-  searched r e = subst (Searched n bytes assumed) e (visits-exist (askClauses bytes assumed) (replicate n 2))
+  -- ---- what each answer says
 
   pub ask-model : (visits : ℕ) (after : List ℕ) → Asks n bytes assumed budget places (Model visits) after
       → ModelSays n bytes assumed budget places visits after
-  ask-model visits after p =
-      ⊎-elim (λ h. absurd (h .0 (sym (number-so (h .1))))) (λ h. says (model-ends n budget places result visits after h))
-      (comes-from (answered (Model visits) after) p)
+  ask-model visits after p = go (comes (answered (Model visits) after) p)
     where
-      says : EndsModel n budget places result visits after → ModelSays n bytes assumed budget places visits after
-      says end =
-          let first = means (search.Model (end .m) visits) (end .is) in
-          let size = first .assigns .size in
-          let front : take n after ≡ end .m = ap (take n) (end .written) ∙ take-at (end .m) (drop n places) n size in
+      go : Comes n bytes assumed budget places (answered (Model visits) after) → ModelSays n bytes assumed budget places visits after
+      go (refuses some q) = absurd (some (sym (number-so q)))
+      go (spends r end l q) = absurd (omega (arith, number-so q))
+      go (fails v end l q) = absurd (omega (arith, number-so q))
+      go (models m v end l q) =
+          let size = end .means .assigns .size in
+          let front : take n after ≡ m = ap (take n) (model-so q) ∙ take-at m (drop (length m) places) n size in
           record {
-            first = rw front first;
-            beyond = ap (drop n) (end .written) ∙ drop-at (end .m) (drop n places) n size;
-            count = rw front (searched (search.Model (end .m) visits) (end .is));
-            within = end .within;
+            first = rw front (end .means);
+            beyond = ap (drop n) (model-so q) ∙ drop-at m (drop (length m) places) n size ∙ rw size;
+            count = rw (front, visits-so q) (end .searched);
+            within = omega (arith, l, visits-so q);
           }
 
   pub ask-none : (visits : ℕ) (after : List ℕ) → Asks n bytes assumed budget places (None visits) after
       → NoneSays n bytes assumed budget places visits after
-  unfolding refusal
-  ask-none visits after p =
-      ⊎-elim (λ h. absurd (refusal-not-none n bytes assumed (length places) (sym (number-so (h .1)))))
-      (λ h. says (none-ends n budget places result visits after h)) (comes-from (answered (None visits) after) p)
+  ask-none visits after p = go (comes (answered (None visits) after) p)
     where
-      says : EndsNone budget places result visits after → NoneSays n bytes assumed budget places visits after
-      says end = record {
-        none = means (search.None visits) (end .is);
-        kept = end .kept;
-        count = searched (search.None visits) (end .is);
-        within = end .within;
-      }
+      go : Comes n bytes assumed budget places (answered (None visits) after) → NoneSays n bytes assumed budget places visits after
+      go (refuses some q) = absurd (refusal-not-none n bytes assumed (length places) (sym (number-so q)))
+      go (spends r end l q) = absurd (omega (arith, number-so q))
+      go (models m v end l q) = absurd (omega (arith, number-so q))
+      go (fails v end l q) =
+          record { none = end .means; kept = model-so q; count = rw (visits-so q) (end .searched); within = omega (arith, l, visits-so q) }
 
   -- a refusal writes nothing
   pub ask-refused : (given : Refusal) (after : List ℕ) → Asks n bytes assumed budget places (Refused given) after → after ≡ places
-  ask-refused given after p =
-      ⊎-elim (λ h. model-so (h .1)) (refused-ends n budget places result given after) (comes-from (answered (Refused given) after) p)
+  ask-refused given after p = go (comes (answered (Refused given) after) p)
+    where
+      go : Comes n bytes assumed budget places (answered (Refused given) after) → after ≡ places
+      go (refuses some q) = model-so q
+      go (spends r end l q) = model-so q
+      go (models m v end l q) = absurd (refused-number given (number-so q))
+      go (fails v end l q) = model-so q
 
   -- where no other refusal is given, Spent is given exactly when the visits of the whole search are above the budget
-  pub ask-spent : askRefusal n bytes assumed (length places) ≡ 0
-      → Asks n bytes assumed budget places (Refused Spent) places ↔ (budget < visitsOf (searching.search n (askClauses bytes assumed)))
-  unfolding refusal result
-  ask-spent e = (
-    (λ p. ⊎-elim (λ h. absurd (h .0 e)) (spent-above n budget places result) (comes-from (answered (Refused Spent) places) p)),
-    λ l. found-spent n budget places result l ∙ found-result n bytes assumed budget places (sym e),
-  )
+  pub ask-spent : askRefusal n bytes assumed (length places) ≡ 0 → (r : search.Found) → Searched n bytes assumed r
+      → Asks n bytes assumed budget places (Refused Spent) places ↔ (budget < visitsOf r)
+  ask-spent none r s = ((λ p. to (comes (answered (Refused Spent) places) p)), λ l. from l (comes (askResult n bytes assumed budget places) refl))
+    where
+      same : (other : search.Found) → Ends n bytes assumed other → visitsOf other ≡ visitsOf r
+      same other end = ap visitsOf (visits-only (end .searched) s)
+
+      to : Comes n bytes assumed budget places (answered (Refused Spent) places) → budget < visitsOf r
+      to (refuses some q) = absurd (some none)
+      to (spends other end l q) = rw (same other end) at l
+      to (models m v end l q) = absurd (omega (arith, number-so q))
+      to (fails v end l q) = absurd (omega (arith, number-so q))
+
+      from : budget < visitsOf r → Comes n bytes assumed budget places (askResult n bytes assumed budget places) → Asks n bytes assumed budget places (Refused Spent) places
+      from l (refuses some q) = absurd (some none)
+      from l (spends other end k q) = sym q
+      from l (models m v end k q) = absurd (let b : ⊥ = omega (arith, l, k, same (search.Model m v) end) in b)
+      from l (fails v end k q) = absurd (let b : ⊥ = omega (arith, l, k, same (search.None v) end) in b)

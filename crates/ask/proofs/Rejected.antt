@@ -1,5 +1,5 @@
 -- Programs that an ask's promise rejects (document 01, "How tight the promises are").
-use mathlib.Core.Path.{refl, ap}
+use mathlib.Core.Path.{refl, sym, ap, _∙_}
 use mathlib.Core.Logic.{_≢_}
 use mathlib.Core.List.{List, [], _∷_}
 use Prim.Native.Nat.{ℕ}
@@ -7,12 +7,14 @@ use native.Mathlib.Omega.{arith}
 use lib.ListN.{getD}
 use Rattle.setups.specs.declared.Refusal.{Refusal}
 use Rattle.setups.specs.Search as search
-use Rattle.setups.specs.Ask.{askResult}
+use Rattle.setups.specs.Ask.{AskResult, askResult}
+use Rattle.setups.proofs.Refusals.{refused-number}
 use Rattle.setups.proofs.Visits.{visitsOf, visits-only}
 use Rattle.ask.specs.declared.Asked.{Asked}
 use Rattle.ask.specs.declared.Asked.the-variants.{Model, None, Refused}
-use Rattle.ask.specs.Asking.{Asks, Searched}
-use Rattle.ask.proofs.Promise.{model-not-refused, ask-only, ask-model, ask-none}
+use Rattle.ask.specs.Asking.{Asks}
+use Rattle.ask.specs.Meaning.{Searched}
+use Rattle.ask.proofs.Promise.{ask-only, ask-model, ask-none}
 
 -- P10 of document 01: two variables, (1 2), (1 −2), (−1 2); three places are lent
 abbrev rules : List ℕ
@@ -27,9 +29,8 @@ unfolding askResult
 right = refl
 
 -- one that refuses everything
-pub ask-not-refused : (refusal : Refusal) (after : List ℕ) → ¬ Asks 2 rules [] 3 places (Refused refusal) after
-ask-not-refused refusal after p =
-    model-not-refused 3 refusal (ask-only 2 rules [] 3 places (Model 3) (Refused refusal) (1 ∷ 1 ∷ 7 ∷ []) after right p .0)
+pub ask-not-refusing : (refusal : Refusal) (after : List ℕ) → ¬ Asks 2 rules [] 3 places (Refused refusal) after
+ask-not-refusing refusal after p = refused-number refusal (ap (λ (r : AskResult). r .number) (p ∙ sym right))
 
 -- one that writes nothing
 pub ask-not-silent : (answer : Asked) → ¬ Asks 2 rules [] 3 places answer places

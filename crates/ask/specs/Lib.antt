@@ -1,3 +1,5 @@
--- What an ask promises, and what its parts do.
+-- Ask's answer as the result that document 01 describes, its promise, and what that says.
 pub mod Asking
+pub mod Meaning
+-- what its checks answer
 pub mod Checking

@@ -10,12 +10,12 @@ use search::Outcome;
 use search::visit;
 use setups::Refusal;
 ghost use mathlib.Core.Path.{_≡_};
-ghost use mathlib.Core.List.{_++_};
 ghost use Prim.Native.Nat.{_≤_};
-ghost use lib.ListN.{length, take, drop};
+ghost use lib.ListN.{length, take};
 ghost use Rattle.setups.specs.Limits.{variablesMost};
+ghost use Rattle.setups.specs.Written.{written};
 ghost use Rattle.setups.specs.Searching;
-ghost use Rattle.setups.specs.Ask.{askClauses, askRefusal, found};
+ghost use Rattle.setups.specs.Ask.{askClauses, askRefusal, searchedResult};
 ghost use Rattle.ask.specs.Asking.{answered, Asks};
 
 // Model and None carry the visits of the whole search.
@@ -28,7 +28,7 @@ pub enum Asked {
 // Writes the model: a byte for each of `count` variables; places beyond stay as they were.
 fn write_model(model: &mut [u8], values: Values, count: usize)
     requires { ⌜ (count ≤ variablesMost) × (count ≤ length (now model)) ⌝ }
-    ensures { λ _. ⌜ now (model .exit) ≡ take count values ++ drop count (now (model .entry)) ⌝ }
+    ensures { λ _. ⌜ now (model .exit) ≡ written (take count values) (now (model .entry)) ⌝ }
 {
     let mut i = 0;
     while i < count {
@@ -40,7 +40,7 @@ fn write_model(model: &mut [u8], values: Values, count: usize)
 // The ask that no check refuses: the search from the first visit on.
 fn answer(count: u32, clauses: &[u8], assumed: &[u8], budget: u32, model: &mut [u8]) -> Asked
     requires { ⌜ askRefusal count (now clauses) (now assumed) (length (now model)) ≡ 0 ⌝ }
-    ensures { λ r. ⌜ answered r (now (model .exit)) ≡ found count budget (now (model .entry)) (Searching.search count (askClauses (now (clauses .entry)) (now (assumed .entry)))) ⌝ }
+    ensures { λ r. ⌜ answered r (now (model .exit)) ≡ searchedResult budget (now (model .entry)) (Searching.search count (askClauses (now (clauses .entry)) (now (assumed .entry)))) ⌝ }
 {
     let variables = count as usize;
     let end = visit(opening(count), clauses, b"", assumed, 0, budget);

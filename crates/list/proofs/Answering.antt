@@ -1,5 +1,5 @@
 -- The job's promise from what its parts say: a refusal before the search, or the list given out and the scratch zeroed.
-use mathlib.Core.Path.{_≡_}
+use mathlib.Core.Path.{_≡_, subst, _∙_}
 use mathlib.Core.List.{List, _++_, append-nil}
 use Prim.Native.Nat.{ℕ}
 use native.Mathlib.Nat.{le-of-eq}
@@ -9,13 +9,12 @@ use lib.Seq.{take-all}
 use Rattle.setups.specs.declared.Refusal.{Refusal}
 use Rattle.setups.specs.Refusals.{numberOf}
 use Rattle.setups.specs.Setups.{setup}
-use Rattle.setups.specs.Tests.{together}
 use Rattle.setups.specs.List.{without-list, zeroed, listRefusal, ListGives}
-use Rattle.setups.proofs.Tests.{together-iff}
 use Rattle.setups.proofs.Refusals.{refused-number}
-use Rattle.setups.proofs.Duality.{ways-out-exist}
 use Rattle.list.specs.declared.Listing.{Listing}
-use Rattle.list.specs.Answer.{answered, GivesOut}
+use Rattle.list.specs.Listing.{answered}
+use Rattle.list.specs.Giving.{GivesWays}
+use Rattle.list.proofs.Promise.{lists-exist}
 
 -- the scratch is cleared up to its whole length, after what `held` it
 pub all-cleared : (scratch held zeros : List ℕ) → length held ≡ length scratch → zeros ≡ replicate (length (take (length scratch) held)) 0
@@ -27,16 +26,10 @@ module _ (n : ℕ) (hard soft list scratch : List ℕ) where
   -- a refusal before the search writes nothing
   pub refused : (r : Refusal) → listRefusal n hard soft (length list) (length scratch) ≡ numberOf r → ListGives n hard soft list scratch (without-list (numberOf r) list scratch)
   refused r e =
-      let ways = ways-out-exist (setup n hard soft) in
-      record {
-        ways = ways .0;
-        exact = ways .1;
-        met = together (setup n hard soft) 0;
-        meets = together-iff (setup n hard soft) 0;
-        says = rw (e, ne-eqb (numberOf r) 0 (refused-number r));
-      }
+      let p = lists-exist n hard soft list scratch .1 in
+      subst (ListGives n hard soft list scratch) (p .says ∙ rw (e, ne-eqb (numberOf r) 0 (refused-number r))) p
 
   -- the list is given out and the scratch is zero
-  pub given-out : listRefusal n hard soft (length list) (length scratch) ≡ 0 → {found places after : List ℕ} {answer : Listing} → GivesOut (setup n hard soft) list found answer after places
+  pub given-out : listRefusal n hard soft (length list) (length scratch) ≡ 0 → {found places after : List ℕ} {answer : Listing} → GivesWays (setup n hard soft) list found answer after places
       → {zeros : List ℕ} → zeros ≡ zeroed scratch → ListGives n hard soft list scratch (answered answer after zeros)
   given-out e h z = record { ways = h .ways; exact = h .exact; met = h .met; meets = h .meets; says = rw (e, z) (h .says scratch) }

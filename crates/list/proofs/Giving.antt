@@ -9,18 +9,19 @@ use borrow.Author.Tests.{lt-ltb, le-ltb}
 use Rattle.setups.specs.declared.Refusal.the-variants.{TooMany}
 use Rattle.setups.specs.Setups.{Setup, count, Together}
 use Rattle.setups.specs.List.{zeroed, givenOut}
-use Rattle.setups.proofs.Duality.{unmet-no-way-out}
+use Rattle.setups.proofs.Duality.{unmet-ways-out}
 use Rattle.walk.specs.Walking.{Between, over, Walked}
 use Rattle.walk.proofs.Overwriting.{over-take}
 use Rattle.walk.proofs.Root.{below-all, root-unmet}
 use Rattle.list.specs.declared.Listing.the-variants.{Listed, Unmet, Refused}
-use Rattle.list.specs.Answer.{answered, GivesOut}
+use Rattle.list.specs.Listing.{answered}
+use Rattle.list.specs.Giving.{GivesWays}
 
 -- an empty branch at the root: Unmet, and no place is written
-pub root-dead : (g : Setup) (settings : ℕ) (e : settings ≡ count g) (list found : List ℕ) → ¬ Between g 0 (0 + 2 ^ settings) → GivesOut g list found Unmet list found
+pub root-dead : (g : Setup) (settings : ℕ) (e : settings ≡ count g) (list found : List ℕ) → ¬ Between g 0 (0 + 2 ^ settings) → GivesWays g list found Unmet list found
 root-dead g settings e list found dead = record {
   ways = [];
-  exact = record { rising = tt; exact = λ S. ((λ h. absurd h), λ w. absurd (unmet-no-way-out g (root-unmet g settings e dead) S w)) };
+  exact = unmet-ways-out g (root-unmet g settings e dead);
   met = false;
   meets = ((λ t. absurd t), λ t. absurd (root-unmet g settings e dead t));
   places = refl;
@@ -42,7 +43,7 @@ pub record Whole (g : Setup) (list found places : List ℕ) (filled : ℕ) : Typ
 
 module _ {g : Setup} {list found places : List ℕ} {filled : ℕ} (h : Whole g list found places filled) where
   -- that place is filled
-  pub whole-many : length list < filled → GivesOut g list found (Refused TooMany) list places
+  pub whole-many : length list < filled → GivesWays g list found (Refused TooMany) list places
   whole-many l = record {
     ways = h .walked .ways;
     exact = below-all g (h .walked .ways) (h .walked .exact);
@@ -53,7 +54,7 @@ module _ {g : Setup} {list found places : List ℕ} {filled : ℕ} (h : Whole g 
   }
 
   -- it is not, and those found are copied out
-  pub whole-listed : {after : List ℕ} → filled ≤ length list → after ≡ take filled places ++ drop filled list → GivesOut g list found (Listed filled) after places
+  pub whole-listed : {after : List ℕ} → filled ≤ length list → after ≡ take filled places ++ drop filled list → GivesWays g list found (Listed filled) after places
   whole-listed {after} l copied = record {
     ways = h .walked .ways;
     exact = below-all g (h .walked .ways) (h .walked .exact);

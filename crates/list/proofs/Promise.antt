@@ -1,32 +1,42 @@
--- What follows from List's promise: no second result meets it, and each answer means what document 01 says.
+-- What follows from List's promise: some result meets it and no second one does, and each answer means what document 01 says.
 use mathlib.Core.Path.{_≡_, refl, sym, ap, _∙_}
-use mathlib.Core.Logic.{_≢_, Iff·trans, Iff·symm}
-use mathlib.Core.Bool.{true, false, cond}
-use mathlib.Core.List.{List, _++_}
-use Prim.Native.Nat.{ℕ, _≤_, _<_}
+use mathlib.Core.Logic.{⊎-elim, _≢_, Iff·trans, Iff·symm}
+use mathlib.Core.Bool.{true, false}
+use mathlib.Core.List.{List}
+use Prim.Native.Nat.{ℕ}
 use native.Mathlib.Omega.{arith}
-use lib.Dec.{ltb, eqb}
-use lib.ListN.{length, drop}
-use lib.Seq.{take-append-seam, drop-append-seam}
-use borrow.Author.Tests.{eqb-true, eqb-false, ltb-true, ltb-false}
+use lib.Dec.{eqb}
+use lib.ListN.{length}
+use borrow.Author.Tests.{eqb-true, eqb-false}
 use Rattle.numbers.proofs.Deciding.{T-equal, T-true, T-false, cond-case}
 use Rattle.sets.proofs.Lists.{exactly-unique}
-use Rattle.setups.specs.declared.Refusal.the-variants.{TooMany}
-use Rattle.setups.specs.Refusals.{numberOf, finished, unmet}
+use Rattle.setups.specs.Refusals.{unmet}
 use Rattle.setups.specs.Setups.{Setup, setup, Together, WayOut}
-use Rattle.setups.specs.List.{ListResult, without-list, zeroed, givenOut, listRefusal, ListGives}
-use Rattle.setups.proofs.Refusals.{number-only, refused-number, refused-not-unmet}
+use Rattle.setups.specs.Tests.{together}
+use Rattle.setups.specs.List.{ListResult, without-list, zeroed, givenOut, GivesExactly, listRefusal, listed, ListGives}
+use Rattle.setups.proofs.Duality.{ways-out-exist}
+use Rattle.setups.proofs.GivenOut.{number-so, filled-so, list-so, scratch-so, gives-nothing, gives-exactly}
 use Rattle.setups.proofs.JudgeLaws.{list-most}
+use Rattle.setups.proofs.Refusals.{number-only, refused-number, refused-not-unmet}
+use Rattle.setups.proofs.Tests.{together-iff}
 use Rattle.list.specs.declared.Listing.{Listing}
 use Rattle.list.specs.declared.Listing.the-variants.{Listed, Unmet, Refused}
-use Rattle.list.specs.Answer.{answered}
-use Rattle.list.specs.Meaning.{Means}
+use Rattle.list.specs.Listing.{answered, Lists}
+use Rattle.list.specs.Meaning.{ListMeans}
 
--- ---- no second result
+-- ---- a result, and no second one
 
--- the promise has one result
-pub result-only : (n : ℕ) (hard soft list scratch : List ℕ) (r s : ListResult) → ListGives n hard soft list scratch r → ListGives n hard soft list scratch s → r ≡ s
-result-only n hard soft list scratch r s p q = p .says ∙ rw (ways, met) (sym (q .says))
+pub lists-exist : (n : ℕ) (hard soft list scratch : List ℕ) → (r : ListResult) × ListGives n hard soft list scratch r
+lists-exist n hard soft list scratch =
+    let g = setup n hard soft in
+    let ways = ways-out-exist g in (
+      listed (listRefusal n hard soft (length list) (length scratch)) (together g 0) (ways .0) list scratch,
+      record { ways = ways .0; exact = ways .1; met = together g 0; meets = together-iff g 0; says = refl },
+    )
+
+pub list-result-only : (n : ℕ) (hard soft list scratch : List ℕ) (r s : ListResult) → ListGives n hard soft list scratch r → ListGives n hard soft list scratch s
+    → r ≡ s
+list-result-only n hard soft list scratch r s p q = p .says ∙ rw (ways, met) (sym (q .says))
   where
     ways : p .ways ≡ q .ways
     ways = exactly-unique (WayOut (setup n hard soft)) (p .ways) (q .ways) (p .exact) (q .exact)
@@ -34,47 +44,34 @@ result-only n hard soft list scratch r s p q = p .says ∙ rw (ways, met) (sym (
     met : p .met ≡ q .met
     met = T-equal (p .met) (q .met) (Iff·trans (p .meets) (Iff·symm (q .meets)))
 
-number-so : {r s : ListResult} → r ≡ s → r .number ≡ s .number
-number-so e = ap (λ (r : ListResult). r .number) e
+-- one result comes from one answer and two buffers
+answered-only : (answer other : Listing) (list scratch listToo scratchToo : List ℕ) → answered answer list scratch ≡ answered other listToo scratchToo
+    → (answer ≡ other) × (list ≡ listToo) × (scratch ≡ scratchToo)
+answered-only (Listed k) (Listed j) list scratch listToo scratchToo e = (ap Listed (filled-so e), list-so e, scratch-so e)
+answered-only (Listed k) Unmet list scratch listToo scratchToo e = absurd (let b : ⊥ = omega (arith, number-so e) in b)
+answered-only (Listed k) (Refused b) list scratch listToo scratchToo e = absurd (refused-number b (sym (number-so e)))
+answered-only Unmet (Listed j) list scratch listToo scratchToo e = absurd (let b : ⊥ = omega (arith, number-so e) in b)
+answered-only Unmet Unmet list scratch listToo scratchToo e = (refl, list-so e, scratch-so e)
+answered-only Unmet (Refused b) list scratch listToo scratchToo e = absurd (refused-not-unmet b (sym (number-so e)))
+answered-only (Refused a) (Listed j) list scratch listToo scratchToo e = absurd (refused-number a (number-so e))
+answered-only (Refused a) Unmet list scratch listToo scratchToo e = absurd (refused-not-unmet a (number-so e))
+answered-only (Refused a) (Refused b) list scratch listToo scratchToo e = (ap Refused (number-only a b (number-so e)), list-so e, scratch-so e)
 
--- one result comes from one answer, one list buffer and one scratch
-answer-only : (answer other : Listing) (after zeros later work : List ℕ) → answered answer after zeros ≡ answered other later work → answer ≡ other
-answer-only (Listed k) (Listed j) after zeros later work e = ap Listed (ap (λ (r : ListResult). r .filled) e)
-answer-only (Listed k) Unmet after zeros later work e = absurd (let b : ⊥ = omega (arith, number-so e) in b)
-answer-only (Listed k) (Refused b) after zeros later work e = absurd (refused-number b (sym (number-so e)))
-answer-only Unmet (Listed j) after zeros later work e = absurd (let b : ⊥ = omega (arith, number-so e) in b)
-answer-only Unmet Unmet after zeros later work e = refl
-answer-only Unmet (Refused b) after zeros later work e = absurd (refused-not-unmet b (sym (number-so e)))
-answer-only (Refused a) (Listed j) after zeros later work e = absurd (refused-number a (number-so e))
-answer-only (Refused a) Unmet after zeros later work e = absurd (refused-not-unmet a (number-so e))
-answer-only (Refused a) (Refused b) after zeros later work e = ap Refused (number-only a b (number-so e))
-
-list-so : (answer : Listing) (after zeros : List ℕ) → answered answer after zeros .list ≡ after
-list-so (Listed k) after zeros = refl
-list-so Unmet after zeros = refl
-list-so (Refused a) after zeros = refl
-
-scratch-so : (answer : Listing) (after zeros : List ℕ) → answered answer after zeros .scratch ≡ zeros
-scratch-so (Listed k) after zeros = refl
-scratch-so Unmet after zeros = refl
-scratch-so (Refused a) after zeros = refl
-
--- so that no second answer, list buffer or scratch meets it
-pub list-only : (n : ℕ) (hard soft list scratch : List ℕ) (answer other : Listing) (after zeros later work : List ℕ)
-    → ListGives n hard soft list scratch (answered answer after zeros) → ListGives n hard soft list scratch (answered other later work)
-    → (answer ≡ other) × (after ≡ later) × (zeros ≡ work)
-list-only n hard soft list scratch answer other after zeros later work p q =
-    let e = result-only n hard soft list scratch (answered answer after zeros) (answered other later work) p q in (
-      answer-only answer other after zeros later work e,
-      sym (list-so answer after zeros) ∙ ap (λ (r : ListResult). r .list) e ∙ list-so other later work,
-      sym (scratch-so answer after zeros) ∙ ap (λ (r : ListResult). r .scratch) e ∙ scratch-so other later work,
-    )
+pub list-only : (n : ℕ) (hard soft list scratch : List ℕ) (answer other : Listing) (listAfter scratchAfter listToo scratchToo : List ℕ)
+    → Lists n hard soft list scratch answer listAfter scratchAfter → Lists n hard soft list scratch other listToo scratchToo
+    → (answer ≡ other) × (listAfter ≡ listToo) × (scratchAfter ≡ scratchToo)
+list-only n hard soft list scratch answer other listAfter scratchAfter listToo scratchToo p q =
+    answered-only answer other listAfter scratchAfter listToo scratchToo
+    (list-result-only n hard soft list scratch (answered answer listAfter scratchAfter) (answered other listToo scratchToo) p q)
 
 -- ---- what each answer means
 
 pub list-means : (n : ℕ) (hard soft list scratch : List ℕ) (r : ListResult) → ListGives n hard soft list scratch r
-    → Means (setup n hard soft) (listRefusal n hard soft (length list) (length scratch)) list scratch r
-list-means n hard soft list scratch r p = cond-case (λ (x : ListResult). r ≡ x → Meant) (eqb refusal 0) (λ e. searched (eqb-true refusal 0 e)) (λ e. refused (eqb-false refusal 0 e)) (p .says)
+    → ListMeans (setup n hard soft) (listRefusal n hard soft (length list) (length scratch)) list scratch r
+list-means n hard soft list scratch r p =
+    cond-case (λ (x : ListResult). r ≡ x → Meant) (eqb refusal 0)
+    (λ e. cond-case (λ (x : ListResult). r ≡ x → Meant) (p .met) (given-out (eqb-true refusal 0 e)) (no-model (eqb-true refusal 0 e)))
+    (λ e. refused (eqb-false refusal 0 e)) (p .says)
   where
     g : Setup
     g = setup n hard soft
@@ -83,7 +80,10 @@ list-means n hard soft list scratch r p = cond-case (λ (x : ListResult). r ≡ 
     refusal = listRefusal n hard soft (length list) (length scratch)
 
     Meant : Type 0
-    Meant = Means g refusal list scratch r
+    Meant = ListMeans g refusal list scratch r
+
+    Passed : Type 0
+    Passed = (refusal ≡ 0) × Together g 0
 
     refused : refusal ≢ 0 → r ≡ without-list refusal list scratch → Meant
     refused some q =
@@ -91,60 +91,30 @@ list-means n hard soft list scratch r p = cond-case (λ (x : ListResult). r ≡ 
         let most = list-most n hard soft (length list) (length scratch) in
         record {
           refused = λ k. q;
-          unmet = ((λ k. absurd (let b : ⊥ = omega arith in b)), λ h. absurd (some (h .0)));
-          too-many = ((λ k. absurd (let b : ⊥ = omega arith in b)), λ h. absurd (some (h .0)));
-          listed = λ k. absurd (some (sym number ∙ k));
-          stays = λ k. ap (λ (x : ListResult). x .list) q;
-          zeros = λ k. absurd (some k);
+          fails = ((λ k. absurd (let b : ⊥ = omega arith in b)), λ h. absurd (some (h .0)));
+          leaves = λ k. absurd (let b : ⊥ = omega arith in b);
+          gives = gives-nothing Passed (WayOut g) list scratch (λ h. some (h .0)) r (λ k. some (sym number ∙ k)) (λ k. let b : ⊥ = omega arith in b);
         }
 
     no-model : refusal ≡ 0 → p .met ≡ false → r ≡ without-list unmet list (zeroed scratch) → Meant
     no-model none m q =
         let number : r .number ≡ unmet = number-so q in
-        let fails : ¬ Together g 0 = λ t. T-false (p .met) .1 m (p .meets .1 t) in
+        let not : ¬ Together g 0 = λ t. T-false (p .met) .1 m (p .meets .1 t) in
         record {
-          refused = λ k. absurd (k none);
-          unmet = ((λ k. (none, fails)), λ h. number);
-          too-many = ((λ k. absurd (let b : ⊥ = omega arith in b)), λ h. absurd (fails (h .1)));
-          listed = λ k. absurd (let b : ⊥ = omega arith in b);
-          stays = λ k. ap (λ (x : ListResult). x .list) q;
-          zeros = λ k. ap (λ (x : ListResult). x .scratch) q;
+          refused = λ some. absurd (some none);
+          fails = ((λ k. (none, not)), λ h. number);
+          leaves = λ k. q;
+          gives = gives-nothing Passed (WayOut g) list scratch (λ h. not (h .1)) r (λ k. let b : ⊥ = omega arith in b) (λ k. let b : ⊥ = omega arith in b);
         }
 
-    many : refusal ≡ 0 → p .met ≡ true → length list < length (p .ways) → r ≡ without-list (numberOf TooMany) list (zeroed scratch) → Meant
-    many none m l q =
-        let number : r .number ≡ numberOf TooMany = number-so q in
+    given-out : refusal ≡ 0 → p .met ≡ true → r ≡ givenOut (p .ways) list scratch → Meant
+    given-out none m q =
         let met : Together g 0 = p .meets .0 (T-true (p .met) .1 m) in
+        let gives : GivesExactly Passed (WayOut g) list scratch r = rw q (gives-exactly Passed (WayOut g) list scratch (none, met) (p .ways) (p .exact)) in
+        let number : r .number ≢ unmet = λ k. ⊎-elim (λ f. let b : ⊥ = omega arith in b) (λ m. let b : ⊥ = omega arith in b) (gives .either (none, met)) in
         record {
-          refused = λ k. absurd (k none);
-          unmet = ((λ k. absurd (let b : ⊥ = omega arith in b)), λ h. absurd (h .1 met));
-          too-many = ((λ k. (none, met, λ ways x. rw (exactly-unique (WayOut g) ways (p .ways) x (p .exact)) l)), λ h. number);
-          listed = λ k. absurd (let b : ⊥ = omega arith in b);
-          stays = λ k. ap (λ (x : ListResult). x .list) q;
-          zeros = λ k. ap (λ (x : ListResult). x .scratch) q;
+          refused = λ some. absurd (some none);
+          fails = ((λ k. absurd (number k)), λ h. absurd (h .1 met));
+          leaves = λ k. absurd (number k);
+          gives = gives;
         }
-
-    all : refusal ≡ 0 → p .met ≡ true → length (p .ways) ≤ length list
-        → r ≡ record { number = finished; filled = length (p .ways); list = p .ways ++ drop (length (p .ways)) list; scratch = zeroed scratch } → Meant
-    all none m l q =
-        let number : r .number ≡ finished = number-so q in
-        let met : Together g 0 = p .meets .0 (T-true (p .met) .1 m) in
-        record {
-          refused = λ k. absurd (k none);
-          unmet = ((λ k. absurd (let b : ⊥ = omega arith in b)), λ h. absurd (h .1 met));
-          too-many = ((λ k. absurd (let b : ⊥ = omega arith in b)), λ h. absurd (let b : ⊥ = omega (arith, h .2 (p .ways) (p .exact)) in b));
-          listed = λ k. rw q (record {
-            ways = rw (take-append-seam (p .ways) (drop (length (p .ways)) list)) (p .exact);
-            number = λ ways x. ap length (exactly-unique (WayOut g) (p .ways) ways (p .exact) x);
-            rest = drop-append-seam (p .ways) (drop (length (p .ways)) list);
-          });
-          stays = λ k. absurd (k number);
-          zeros = λ k. ap (λ (x : ListResult). x .scratch) q;
-        }
-
-    searched : refusal ≡ 0 → r ≡ cond (p .met) (givenOut (p .ways) list scratch) (without-list unmet list (zeroed scratch)) → Meant
-    searched none =
-        cond-case (λ (x : ListResult). r ≡ x → Meant) (p .met)
-        (λ m. cond-case (λ (x : ListResult). r ≡ x → Meant) (ltb (length list) (length (p .ways)))
-        (λ e. many none m (ltb-true (length list) (length (p .ways)) e)) (λ e. all none m (ltb-false (length list) (length (p .ways)) e)))
-        (no-model none)

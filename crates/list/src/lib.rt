@@ -17,7 +17,8 @@ ghost use Prim.Native.Nat.{_+_};
 ghost use lib.ListN.{length};
 ghost use Rattle.setups.specs.Setups.{setup, count as settingsCount};
 ghost use Rattle.setups.specs.Taken.{Taken};
-ghost use Rattle.list.specs.Answer.{GivesOut, Lists};
+ghost use Rattle.list.specs.Giving.{GivesWays};
+ghost use Rattle.list.specs.Listing.{Lists};
 
 // What List answers: how many ways out it has listed, that the hard clauses have no model, or why it can't.
 pub enum Listing {
@@ -38,7 +39,7 @@ fn give_out(
     requires { ⌜ Taken (setup count (now hard) (now soft)) ⌝ }
     requires { ⌜ settings ≡ settingsCount (setup count (now hard) (now soft)) ⌝ }
     requires { ⌜ length (now found) ≡ length (now list) + 1 ⌝ }
-    ensures { λ r. ⌜ GivesOut (setup count (now (hard .entry)) (now (soft .entry))) (now (list .entry)) (now (found .entry)) r (now (list .exit)) (now (found .exit)) ⌝ }
+    ensures { λ r. ⌜ GivesWays (setup count (now (hard .entry)) (now (soft .entry))) (now (list .entry)) (now (found .entry)) r (now (list .exit)) (now (found .exit)) ⌝ }
 {
     let root = Node {
         left: settings,

@@ -4,5 +4,5 @@
 mod Loops
 -- the marks written one by one
 mod Writing
--- no second result, and programs that the promise rejects
+-- no second result, what each answer says, and programs that the promise rejects
 pub mod Promise

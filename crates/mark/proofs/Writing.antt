@@ -4,9 +4,10 @@ use mathlib.Core.List.{List, [], _∷_, _++_}
 use Prim.Native.Nat.{ℕ, zero, suc, _+_, _<_}
 use native.Mathlib.Numerals.{add-one}
 use native.Mathlib.Omega.{arith}
-use lib.ListN.{length, set, drop}
+use lib.ListN.{length, set}
 use Rattle.sets.specs.Marks.{mark, marksFrom, marks}
 use Rattle.sets.proofs.Marks.{marks-length}
+use Rattle.setups.specs.Written.{written}
 use Rattle.numbers.proofs.Places.{fill-next}
 
 -- one mark more stands behind the others
@@ -19,5 +20,5 @@ marks-more list n = rw (add-one n) (from 0 n n (omega arith))
 
 -- and is written at the next place
 pub marks-next : (list places : List ℕ) (i : ℕ) → i < length places
-    → set (marks i list ++ drop i places) i (mark list i) ≡ marks (i + 1) list ++ drop (i + 1) places
-marks-next list places i l = rw (marks-more list i) (fill-next (marks i list) places i (mark list i) (marks-length i list) l)
+    → set (written (marks i list) places) i (mark list i) ≡ written (marks (i + 1) list) places
+marks-next list places i l = rw (marks-length i list, marks-length (i + 1) list, marks-more list i) (fill-next (marks i list) places i (mark list i) (marks-length i list) l)

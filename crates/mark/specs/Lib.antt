@@ -1,3 +1,5 @@
--- What the marks ask of a list, Mark's answer as the result that document 01 describes, and its promise.
-pub mod Agreeing
+-- Mark's answer as the result that document 01 describes, its promise, and what that says.
 pub mod Marking
+pub mod Meaning
+-- what the marks ask of a list
+pub mod Agreeing

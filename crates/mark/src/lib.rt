@@ -7,12 +7,12 @@ use sets::has;
 use setups::Refusal;
 use setups::SETS_MOST;
 ghost use mathlib.Core.Path.{_≡_};
-ghost use mathlib.Core.List.{_++_};
 ghost use Prim.Native.Nat.{_-_, _≤_, _<_};
-ghost use lib.ListN.{length, drop};
+ghost use lib.ListN.{length};
 ghost use Rattle.sets.specs.Tests.{all};
 ghost use Rattle.sets.specs.Marks.{mark as markAt, marks as marksOf};
 ghost use Rattle.setups.specs.Limits.{settingsMost};
+ghost use Rattle.setups.specs.Written.{written};
 ghost use Rattle.mark.specs.Agreeing.{agrees};
 ghost use Rattle.mark.specs.Marking.{Marks};
 
@@ -61,7 +61,7 @@ fn letter(list: &[Set], setting: Setting) -> u8
 // Writes the letters of the first `count` settings.
 fn letters(count: u32, list: &[Set], marks: &mut [u8])
     requires { ⌜ (count ≤ settingsMost) × (count ≤ length (now marks)) ⌝ }
-    ensures { λ _. ⌜ now (marks .exit) ≡ marksOf count (now (list .entry)) ++ drop count (now (marks .entry)) ⌝ }
+    ensures { λ _. ⌜ now (marks .exit) ≡ written (marksOf count (now (list .entry))) (now (marks .entry)) ⌝ }
 {
     let mut i: u32 = 0;
     while i < count {

@@ -7,29 +7,17 @@ use Prim.Native.Nat.{ℕ}
 use native.Mathlib.Omega.{arith}
 use lib.ListN.{length, drop}
 use Rattle.sets.proofs.Tests.{listed-iff}
-use Rattle.setups.specs.Setups.{Setup, setup}
-use Rattle.setups.specs.List.{ListResult, givenOut, listRefusal, listed, ListGives}
-use Rattle.setups.specs.Tests.{together}
-use Rattle.setups.proofs.Tests.{together-iff}
-use Rattle.setups.proofs.Duality.{ways-out-exist}
+use Rattle.setups.specs.Setups.{Setup}
+use Rattle.setups.specs.List.{ListResult, givenOut, listRefusal}
 use Rattle.table.specs.Rows.{neg, Row}
 use Rattle.table.proofs.Table.{table}
-use Rattle.list.proofs.Promise.{result-only}
+use Rattle.list.proofs.Promise.{list-result-only, lists-exist}
 use Rattle.refuted.specs.Programs.{Program, RefusesAll, WritesNothing}
 use Rattle.refuted.specs.Lists.{KeepsList, AnswersP4, VariesFirst, MakesUpCount, ListsEnumerated, BlocksFoundOnly, KeepsCandidates, ListsFewest, GivesUpUnset, DropsEqual}
 use Rattle.refuted.proofs.Programs.{room, work, first-alike, Gives, at, not-refusing, not-silent}
 use Rattle.refuted.proofs.Enumeration.{enumeration-loses, found-only-larger, way-down-longer}
 
--- some result meets the promise, whatever the arguments
-lists-exist : (n : ℕ) (hard soft list scratch : List ℕ) → (r : ListResult) × ListGives n hard soft list scratch r
-lists-exist n hard soft list scratch =
-    let g = setup n hard soft in
-    let ways = ways-out-exist g in (
-      listed (listRefusal n hard soft (length list) (length scratch)) (together g 0) (ways .0) list scratch,
-      record { ways = ways .0; exact = ways .1; met = together g 0; meets = together-iff g 0; says = refl },
-    )
-
--- so some program keeps it
+-- some program keeps the promise
 pub list-kept : (P : Program Setup) × KeepsList P
 list-kept = (
   (λ g list scratch. lists-exist (g .variables) (g .hard) (g .soft) list scratch .0),
@@ -41,7 +29,7 @@ module _ {P : Program Setup} (keeps : KeepsList P) {g : Setup} {ways clashes : L
   lent : (list scratch : List ℕ) → listRefusal (g .variables) (g .hard) (g .soft) (length list) (length scratch) ≡ 0 → Gives P g list scratch (givenOut ways list scratch)
   lent list scratch e = record {
     so =
-        result-only (g .variables) (g .hard) (g .soft) list scratch (P g list scratch) (givenOut ways list scratch) (keeps g list scratch)
+        list-result-only (g .variables) (g .hard) (g .soft) list scratch (P g list scratch) (givenOut ways list scratch) (keeps g list scratch)
         (record { ways = ways; exact = row .ways-out; met = true; meets = ((λ t. row .met), λ t. tt); says = rw e });
   }
 

@@ -1,36 +1,22 @@
 -- The wrong programs for Turn are refuted: each comes to a row of the table, whose ways out and clashes turn into each other.
-use mathlib.Core.Path.{_≡_, refl, sym, ap, _∙_, subst}
-use mathlib.Core.Bool.{cond}
+use mathlib.Core.Path.{_≡_, refl, sym, ap, _∙_}
 use mathlib.Core.List.{List, [], _∷_}
 use Prim.Native.Nat.{ℕ}
 use native.Mathlib.Omega.{arith}
-use lib.Dec.{eqb}
 use lib.ListN.{length}
-use Rattle.sets.specs.Lists.{Exactly}
 use Rattle.sets.specs.Turns.{Turned}
-use Rattle.sets.proofs.Lists.{exactly-unique}
-use Rattle.sets.proofs.Turning.{turn-exists}
-use Rattle.setups.specs.Setups.{Setup, count, WayOut, Clash}
-use Rattle.setups.specs.List.{ListResult, without-list, givenOut}
-use Rattle.setups.specs.Turn.{turnRefusal, TurnGives}
-use Rattle.setups.proofs.Duality.{clashes-turn, ways-out-turn}
+use Rattle.setups.specs.Setups.{Setup, count}
+use Rattle.setups.specs.List.{givenOut}
+use Rattle.setups.specs.Turn.{turnRefusal}
+use Rattle.setups.proofs.Duality.{clashes-turned, ways-out-turned}
 use Rattle.table.specs.Rows.{Row}
 use Rattle.table.proofs.Table.{table}
-use Rattle.turn.proofs.Promise.{turns-only}
+use Rattle.turn.proofs.Promise.{turn-result-only, turns-exist}
 use Rattle.refuted.specs.Programs.{Program, RefusesAll, WritesNothing}
 use Rattle.refuted.specs.Turns.{Given, givenOver, KeepsTurn, Copies, CopiesBack, MakesUpTurnCount, SkipsSecond, TurnsFewest}
 use Rattle.refuted.proofs.Programs.{room, work, first-alike, Gives, at, not-refusing, not-silent}
 
--- some result meets the promise, whatever the arguments
-turns-exist : (n : ℕ) (given list scratch : List ℕ) → (r : ListResult) × TurnGives n given list scratch r
-turns-exist n given list scratch =
-    let turned = turn-exists n given in
-    let refusal = turnRefusal n given (length list) (length scratch) in (
-      cond (eqb refusal 0) (givenOut (turned .0) list scratch) (without-list refusal list scratch),
-      record { turned = turned .0; exact = turned .1; says = refl },
-    )
-
--- so some program keeps it
+-- some program keeps the promise
 pub turn-kept : (P : Program Given) × KeepsTurn P
 turn-kept = (
   (λ given list scratch. turns-exist (given .settings) (given .sets) list scratch .0),
@@ -39,35 +25,21 @@ turn-kept = (
 
 -- ---- on a row of the table
 
--- a list is the turn where it holds exactly what the turn is proved to hold
-turned-so : (Q : ℕ → Type 0) (n : ℕ) (given sets : List ℕ) → ((turned : List ℕ) → Turned n given turned → Exactly Q turned) → Exactly Q sets → Turned n given sets
-turned-so Q n given sets law exact =
-    let turned = turn-exists n given in
-    subst (Turned n given) (exactly-unique Q (turned .0) sets (law (turned .0) (turned .1)) exact) (turned .1)
-
--- so the ways out turn into the clashes, and these into the ways out
-module _ {g : Setup} {ways clashes : List ℕ} (row : Row g ways clashes) where
-  to-clashes : Turned (count g) ways clashes
-  to-clashes = turned-so (Clash g) (count g) ways clashes (λ turned. clashes-turn g ways turned (row .ways-out)) (row .clash)
-
-  to-ways : Turned (count g) clashes ways
-  to-ways = turned-so (WayOut g) (count g) clashes ways (λ turned. ways-out-turn g clashes turned (row .clash)) (row .ways-out)
-
--- and there the program has this one result
+-- there the program has this one result
 module _ {P : Program Given} (keeps : KeepsTurn P) where
   on : (n : ℕ) (given turned : List ℕ) → Turned n given turned → turnRefusal n given 3 4 ≡ 0 → Gives P (givenOver n given) room work (givenOut turned room work)
   on n given turned exact e = record {
     so =
-        turns-only n given room work (P (givenOver n given) room work) (givenOut turned room work) (keeps (givenOver n given) room work)
+        turn-result-only n given room work (P (givenOver n given) room work) (givenOut turned room work) (keeps (givenOver n given) room work)
         (record { turned = turned; exact = exact; says = rw e });
   }
 
   module _ {g : Setup} {ways clashes : List ℕ} (row : Row g ways clashes) where
     on-ways : turnRefusal (count g) ways 3 4 ≡ 0 → Gives P (givenOver (count g) ways) room work (givenOut clashes room work)
-    on-ways = on (count g) ways clashes (to-clashes row)
+    on-ways = on (count g) ways clashes (clashes-turned g ways clashes (row .ways-out) (row .clash))
 
     on-clashes : turnRefusal (count g) clashes 3 4 ≡ 0 → Gives P (givenOver (count g) clashes) room work (givenOut ways room work)
-    on-clashes = on (count g) clashes ways (to-ways row)
+    on-clashes = on (count g) clashes ways (ways-out-turned g ways clashes (row .ways-out) (row .clash))
 
 -- ---- the refutations
 
@@ -99,4 +71,4 @@ turn-not-skipped made P wrong keeps =
 -- P14's clashes 3, 5 turn into 1, 6
 pub turn-not-fewest : (P : Program Given) → TurnsFewest P → ¬ KeepsTurn P
 turn-not-fewest P wrong keeps =
-    omega (arith, ap length (at (on-clashes keeps (table .p14) refl) wrong refl (1 ∷ 6 ∷ []) (to-ways (table .p14))))
+    omega (arith, ap length (at (on-clashes keeps (table .p14) refl) wrong refl (1 ∷ 6 ∷ []) (ways-out-turned _ _ _ (table .p14 .ways-out) (table .p14 .clash))))

@@ -5,21 +5,19 @@ use mathlib.Core.List.{List, [], _∷_}
 use Prim.Native.Nat.{ℕ}
 use borrow.Author.Tests.{ne-eqb}
 use lib.Dec.{eqb}
-use lib.ListN.{length, take}
-use Rattle.sets.proofs.Turning.{turn-exists}
+use lib.ListN.{take}
 use Rattle.setups.specs.declared.Refusal.{Refusal}
 use Rattle.setups.specs.Limits.{setsMost}
 use Rattle.setups.specs.Setups.{setup, count}
 use Rattle.setups.specs.Refusals.{numberOf, finished, unmet}
-use Rattle.setups.specs.Tests.{together}
-use Rattle.setups.specs.List.{ListResult, listedSets, without-list, givenOut, listRefusal, listed, ListGives}
-use Rattle.setups.specs.Turn.{turnRefusal, TurnGives}
-use Rattle.setups.proofs.Duality.{ways-out-exist}
+use Rattle.setups.specs.List.{ListResult, listedSets, ListGives}
+use Rattle.setups.specs.Turn.{TurnGives}
 use Rattle.setups.proofs.Refusals.{refused-number, refused-not-unmet}
-use Rattle.setups.proofs.Tests.{together-iff}
-use Rattle.list.specs.Answer.{answered as listAnswered}
+use Rattle.list.proofs.Promise.{lists-exist}
+use Rattle.list.specs.Listing.{answered as listAnswered}
 use Rattle.list.specs.declared.Listing.{Listing}
 use Rattle.list.specs.declared.Listing.the-variants.{Listed, Unmet, Refused}
+use Rattle.turn.proofs.Promise.{turns-exist}
 use Rattle.turn.specs.Turning.{answered as turnAnswered}
 use Rattle.turn.specs.declared.Turning.{Turning}
 use Rattle.turn.specs.declared.Turning.the-variants.{Listed as TurnListed, Refused as TurnRefused}
@@ -27,25 +25,8 @@ use Rattle.read.specs.declared.Reading.{Reading}
 use Rattle.read.specs.declared.Reading.the-variants.{Read, Refused as ReadRefused}
 use Rattle.read.specs.Read.{ReadResult, readingOf}
 use Rattle.lines.specs.Lines.{answerLines, refusalLines}
-use Rattle.resolve.specs.Resolve.{places, scratchPlaces, reading, setupRead, listedLines, AnswersTurn, Answers, Resolves}
-
--- ---- List and Turn have a result, whatever they are given
-
-pub lists-exist : (n : ℕ) (hard soft list scratch : List ℕ) → (r : ListResult) × ListGives n hard soft list scratch r
-lists-exist n hard soft list scratch =
-    let g = setup n hard soft in
-    let ways = ways-out-exist g in (
-      listed (listRefusal n hard soft (length list) (length scratch)) (together g 0) (ways .0) list scratch,
-      record { ways = ways .0; exact = ways .1; met = together g 0; meets = together-iff g 0; says = refl },
-    )
-
-pub turns-exist : (n : ℕ) (given list scratch : List ℕ) → (r : ListResult) × TurnGives n given list scratch r
-turns-exist n given list scratch =
-    let turned = turn-exists n given in
-    let refusal = turnRefusal n given (length list) (length scratch) in (
-      cond (eqb refusal 0) (givenOut (turned .0) list scratch) (without-list refusal list scratch),
-      record { turned = turned .0; exact = turned .1; says = refl },
-    )
+use Rattle.resolve.specs.Resolve.{places, scratchPlaces, reading, setupRead, listedLines, Answers, Resolves}
+use Rattle.resolve.specs.Parts.{AnswersTurn}
 
 -- ---- after Turn
 

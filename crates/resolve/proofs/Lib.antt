@@ -6,6 +6,8 @@ pub mod Within
 pub mod Filled
 -- from what Read, List and Turn answer to the lines
 pub mod Answering
+-- List, then Turn
+pub mod Turned
 -- what the promise means
 pub mod Meaning
 -- no second output

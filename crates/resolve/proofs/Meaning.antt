@@ -1,27 +1,30 @@
 -- What the promise means: where the outcome is 00 or 80, the 40 lines are exactly the ways out and the 50 lines exactly the clashes of
 -- the setup that the text says.
 use mathlib.Core.Path.{_≡_, refl, sym, subst}
-use mathlib.Core.Logic.{_⊎_, inl, inr, ⊎-elim}
-use mathlib.Core.Bool.{_||_, not}
+use mathlib.Core.Logic.{_⊎_, inl, inr, ⊎-elim, _≢_, by-cases}
+use mathlib.Core.Bool.{_||_}
 use mathlib.Core.List.{List, [], _∷_}
 use Prim.Native.Nat.{ℕ, _≤_, zero-le}
+use native.Mathlib.Decide.{ℕ-discrete}
 use native.Mathlib.Omega.{arith}
 use borrow.Author.Tests.{eqb-true, eqb-false}
-use lib.Dec.{ltb, leb, eqb}
+use lib.Dec.{ltb, eqb}
 use lib.ListN.{length, drop}
 use lib.Seq.{take-at}
-use Rattle.sets.specs.Tests.{fine}
 use Rattle.numbers.proofs.Deciding.{cond-case}
-use Rattle.setups.specs.declared.Refusal.the-variants.{Size, Work, Softs, Frame, Room, List as NotAList}
-use Rattle.setups.specs.Limits.{hardBytesMost, softBytesMost, setsMost, settingsMost}
+use Rattle.sets.proofs.Turning.{turn-unique}
+use Rattle.setups.specs.declared.Refusal.the-variants.{Size, Frame, Room}
+use Rattle.setups.specs.Limits.{hardBytesMost, softBytesMost, setsMost}
 use Rattle.setups.specs.Setups.{Setup, setup, count, Together}
 use Rattle.setups.specs.Refusals.{finished, unmet}
-use Rattle.setups.specs.List.{ListResult, listedSets}
+use Rattle.setups.specs.List.{ListResult, listedSets, listRefusal}
 use Rattle.setups.specs.Turn.{turnRefusal, TurnGives}
-use Rattle.setups.proofs.Duality.{unmet-no-way-out, unmet-empty-clash}
+use Rattle.setups.proofs.Duality.{clashes-turned, clashes-exist, unmet-ways-out, unmet-clashes}
+use Rattle.setups.proofs.GivenOut.{number-so}
 use Rattle.setups.proofs.Refusals.{check-most}
+use Rattle.list.specs.Meaning.{ListMeans}
 use Rattle.list.proofs.Promise.{list-means}
-use Rattle.turn.proofs.Promise.{turn-clashes}
+use Rattle.turn.proofs.Promise.{turn-most, turn-means}
 use Rattle.read.specs.Texts.{good, judge, isBad, hardOf, softOf}
 use Rattle.read.specs.Read.{ReadResult, textMost, readRefusal, readResult}
 use Rattle.read.proofs.Promise.{read-gives, read-accepts}
@@ -31,18 +34,12 @@ use Rattle.resolve.specs.Meaning.{Resolved, Found, Refused}
 
 -- ---- no refusal has the number of Unmet
 
-turn-small : (n : ℕ) (given list scratch : List ℕ) (r : ListResult) → TurnGives n given list scratch r → r .number ≤ 12
-turn-small n given list scratch r p =
-    subst Small (sym (p .says))
-    (cond-case Small (eqb (turnRefusal n given (length list) (length scratch)) 0)
-    (λ e. cond-case Small (ltb (length list) (length (p .turned))) (λ k. omega arith) (λ k. zero-le))
-    (λ e. check-most 12 (ltb settingsMost n) Softs _ (omega arith)
-    (check-most 12 (ltb setsMost (length given) || ltb setsMost (length list)) Size _ (omega arith)
-    (check-most 12 (leb (length scratch) (length list)) Work _ (omega arith)
-    (check-most 12 (not (fine n given)) NotAList 0 (omega arith) zero-le)))))
-  where
-    Small : ListResult → Type 0
-    Small r = r .number ≤ 12
+turn-not-unmet : (n : ℕ) (given list scratch : List ℕ) (r : ListResult) → TurnGives n given list scratch r → r .number ≢ unmet
+turn-not-unmet n given list scratch r p u =
+    let means = turn-means n given list scratch r p in
+    by-cases (ℕ-discrete (turnRefusal n given (length list) (length scratch)) 0)
+    (λ z. ⊎-elim (λ f. let b : ⊥ = omega arith in b) (λ m. let b : ⊥ = omega arith in b) (means .gives .either z))
+    (λ some. let b : ⊥ = omega (arith, turn-most n given (length list) (length scratch) .0, number-so (means .refused some)) in b)
 
 -- ---- what Read has read
 
@@ -87,34 +84,31 @@ unmet-resolved g none = record {
   ways = [];
   clashes = 0 ∷ [];
   says = refl;
-  ways-out = record { rising = tt; exact = λ S. ((λ h. absurd h), λ w. absurd (unmet-no-way-out g none S w)) };
-  all-clashes = record {
-    rising = ((λ R h. absurd h), tt);
-    exact = λ C. (⊎-elim (unmet-empty-clash g none C .1) (λ h. absurd h), λ c. inl (unmet-empty-clash g none C .0 c));
-  };
+  ways-out = unmet-ways-out g none;
+  all-clashes = unmet-clashes g none;
 }
 
 module _ (g : Setup) (lines : List ℕ) (p : Answers g lines) where
+  means : ListMeans g (listRefusal (g .variables) (g .hard) (g .soft) (length (places setsMost)) (length (places scratchPlaces))) (places setsMost) (places scratchPlaces) (p .found)
+  means = list-means (g .variables) (g .hard) (g .soft) (places setsMost) (places scratchPlaces) (p .found) (p .lists)
+
   after-turn : p .found .number ≡ finished → lines ≡ turnedLines (listedSets (p .found)) (p .turned) → Ended g lines
   after-turn done =
       cond-case (λ (x : List ℕ). lines ≡ x → Ended g lines) (eqb (p .turned .number) finished)
-      (λ e q. inl (
+      (λ e q.
+      let ways = means .gives .holds done .sets in
+      let turned = turn-means (count g) (listedSets (p .found)) (places setsMost) (p .found .scratch) (p .turned) (p .turns) .gives .holds (eqb-true (p .turned .number) finished e) .sets in
+      let clashes = clashes-exist g in
+      let same = turn-unique (count g) (listedSets (p .found)) (listedSets (p .turned)) (clashes .0) turned (clashes-turned g (listedSets (p .found)) (clashes .0) ways (clashes .1)) in
+      inl (
         finished,
         inl refl,
-        record {
-          ways = listedSets (p .found);
-          clashes = listedSets (p .turned);
-          says = q;
-          ways-out = list-means (g .variables) (g .hard) (g .soft) (places setsMost) (places scratchPlaces) (p .found) (p .lists) .listed done .ways;
-          all-clashes = turn-clashes (g .variables) (g .hard) (g .soft) (places setsMost) (places scratchPlaces) (p .found) (p .lists) done (places setsMost) (p .found .scratch) (p .turned) (p .turns) (eqb-true (p .turned .number) finished e);
-        },
+        record { ways = listedSets (p .found); clashes = listedSets (p .turned); says = q; ways-out = ways; all-clashes = rw same (clashes .1) },
       ))
-      (λ e q.
-      let most = turn-small (count g) (listedSets (p .found)) (places setsMost) (p .found .scratch) (p .turned) (p .turns) in
-      inr (record {
+      (λ e q. inr (record {
         number = p .turned .number;
         not-finished = eqb-false (p .turned .number) finished e;
-        not-unmet = λ u. let z : ⊥ = omega (arith, most, u) in z;
+        not-unmet = turn-not-unmet (count g) (listedSets (p .found)) (places setsMost) (p .found .scratch) (p .turned) (p .turns);
         says = q;
       }))
 
@@ -122,9 +116,7 @@ module _ (g : Setup) (lines : List ℕ) (p : Answers g lines) where
   answers-mean =
       cond-case (λ (x : List ℕ). lines ≡ x → Ended g lines) (eqb (p .found .number) finished) (λ e q. after-turn (eqb-true (p .found .number) finished e) q)
       (λ e. cond-case (λ (x : List ℕ). lines ≡ x → Ended g lines) (eqb (p .found .number) unmet)
-      (λ u q.
-      let none = list-means (g .variables) (g .hard) (g .soft) (places setsMost) (places scratchPlaces) (p .found) (p .lists) .unmet .0 (eqb-true (p .found .number) unmet u) .1 in
-      inl (unmet, inr refl, subst (Resolved g unmet) (sym q) (unmet-resolved g none)))
+      (λ u q. inl (unmet, inr refl, subst (Resolved g unmet) (sym q) (unmet-resolved g (means .fails .0 (eqb-true (p .found .number) unmet u) .1))))
       (λ u q. inr (record { number = p .found .number; not-finished = eqb-false (p .found .number) finished e; not-unmet = eqb-false (p .found .number) unmet u; says = q })))
       (p .says)
 

@@ -11,17 +11,17 @@ use Rattle.setups.specs.Setups.{Setup, count}
 use Rattle.setups.specs.Refusals.{finished}
 use Rattle.setups.specs.List.{ListResult, listedSets}
 use Rattle.setups.specs.Turn.{TurnGives}
-use Rattle.list.proofs.Promise.{result-only}
-use Rattle.turn.proofs.Promise.{turns-only}
+use Rattle.list.proofs.Promise.{list-result-only}
+use Rattle.turn.proofs.Promise.{turn-result-only}
 use Rattle.lines.specs.Lines.{refusalLines}
 use Rattle.resolve.specs.Resolve.{places, scratchPlaces, reading, setupRead, listedLines, Answers, Resolves, PutsOut}
 
 answers-only : (g : Setup) (a b : List ℕ) → Answers g a → Answers g b → a ≡ b
 answers-only g a b p q =
-    let found : p .found ≡ q .found = result-only (g .variables) (g .hard) (g .soft) (places setsMost) (places scratchPlaces) (p .found) (q .found) (p .lists) (q .lists) in
+    let found : p .found ≡ q .found = list-result-only (g .variables) (g .hard) (g .soft) (places setsMost) (places scratchPlaces) (p .found) (q .found) (p .lists) (q .lists) in
     let turns : TurnGives (count g) (listedSets (q .found)) (places setsMost) (q .found .scratch) (p .turned) =
     subst (λ (r : ListResult). TurnGives (count g) (listedSets r) (places setsMost) (r .scratch) (p .turned)) found (p .turns) in
-    let turned = turns-only (count g) (listedSets (q .found)) (places setsMost) (q .found .scratch) (p .turned) (q .turned) turns (q .turns) in
+    let turned = turn-result-only (count g) (listedSets (q .found)) (places setsMost) (q .found .scratch) (p .turned) (q .turned) turns (q .turns) in
     p .says ∙ ap (λ (r : ListResult). listedLines r (p .turned)) found ∙ ap (listedLines (q .found)) turned ∙ sym (q .says)
 
 pub lines-only : (text a b : List ℕ) → Resolves text a → Resolves text b → a ≡ b

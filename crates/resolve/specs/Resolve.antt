@@ -45,12 +45,6 @@ example-lines :
     × ((turned : ListResult) → listedLines (record { number = 128; filled = 0; list = []; scratch = [] }) turned ≡ answerLines 128 [] (0 ∷ []))
 example-lines = (refl, λ turned. refl)
 
--- `lines` answer the ways out of a setup of n settings: Turn, with this scratch, gives `turned`
-pub record AnswersTurn (n : ℕ) (ways scratch lines : List ℕ) : Type 0 where
-  pub turned : ListResult
-  pub turns : TurnGives n ways (places setsMost) scratch turned
-  pub says : lines ≡ turnedLines ways turned
-
 -- `lines` answer the setup g: List gives `found`, and Turn, over its list and its scratch, gives `turned`
 pub record Answers (g : Setup) (lines : List ℕ) : Type 0 where
   pub found : ListResult

@@ -25,7 +25,8 @@ ghost use Rattle.setups.specs.Limits.{setsMost};
 ghost use Rattle.setups.specs.Setups.{setup};
 ghost use Rattle.setups.specs.Refusals.{unmet};
 ghost use Rattle.lines.specs.Lines.{answerLines, outputMost, Puts};
-ghost use Rattle.resolve.specs.Resolve.{PutsOut, AnswersTurn, Answers, Resolves};
+ghost use Rattle.resolve.specs.Parts.{AnswersTurn};
+ghost use Rattle.resolve.specs.Resolve.{PutsOut, Answers, Resolves};
 
 // How many bytes come out at the most: two full lists of lines, and the last line.
 pub const OUTPUT_MOST: usize = 22_541;

@@ -1,8 +1,8 @@
 -- Demand 3 over a setup: the clashes are exactly the smallest sets across the ways out, and the ways out the smallest across the
 -- clashes, also where the hard clauses alone have no model (Unmet).
 use mathlib.Core.Path.{_≡_, sym, subst}
-use mathlib.Core.Logic.{_↔_, Iff·trans, Iff·symm}
-use mathlib.Core.List.{List}
+use mathlib.Core.Logic.{inl, ⊎-elim, _↔_, Iff·trans, Iff·symm}
+use mathlib.Core.List.{List, [], _∷_}
 use Prim.Native.Nat.{ℕ, _-_, _<_, _^_}
 use native.Mathlib.Decide.{ℕ-discrete, decLt}
 use native.Mathlib.Omega.{arith}
@@ -104,19 +104,20 @@ module _ (g : Setup) where
   -- ---- over lists
 
   -- the list of the ways out turns into the list of the clashes, and the other way about
-  pub clashes-turn : (list turned : List ℕ) → Exactly (WayOut g) list → Turned (count g) list turned → Exactly (Clash g) turned
-  clashes-turn list turned w t = record {
-    rising = t .rising;
-    exact = λ C.
-        Iff·trans (t .exact C) (Iff·trans (cross-iff (count g) (λ M. Among M list) (WayOut g) (w .exact) C) (Iff·symm (clashes-cross C)));
-  }
+  module _ (ways clashes : List ℕ) (w : Exactly (WayOut g) ways) (c : Exactly (Clash g) clashes) where
+    pub clashes-turned : Turned (count g) ways clashes
+    clashes-turned = record {
+      rising = c .rising;
+      exact = λ C.
+          Iff·trans (c .exact C) (Iff·trans (clashes-cross C) (cross-iff (count g) (WayOut g) (λ M. Among M ways) (λ S. Iff·symm (w .exact S)) C));
+    }
 
-  pub ways-out-turn : (list turned : List ℕ) → Exactly (Clash g) list → Turned (count g) list turned → Exactly (WayOut g) turned
-  ways-out-turn list turned c t = record {
-    rising = t .rising;
-    exact = λ S.
-        Iff·trans (t .exact S) (Iff·trans (cross-iff (count g) (λ M. Among M list) (Clash g) (c .exact) S) (Iff·symm (ways-out-cross S)));
-  }
+    pub ways-out-turned : Turned (count g) clashes ways
+    ways-out-turned = record {
+      rising = w .rising;
+      exact = λ S.
+          Iff·trans (w .exact S) (Iff·trans (ways-out-cross S) (cross-iff (count g) (Clash g) (λ M. Among M clashes) (λ C. Iff·symm (c .exact C)) S));
+    }
 
   -- both lists exist
   pub ways-out-exist : (list : List ℕ) × Exactly (WayOut g) list
@@ -152,3 +153,13 @@ module _ (g : Setup) where
         fails = unmet;
         parts = λ R w ne. absurd (ne (within-none R w));
       })
+
+  -- both as lists
+  pub unmet-ways-out : ¬ Together g 0 → Exactly (WayOut g) []
+  unmet-ways-out unmet = record { rising = tt; exact = λ S. ((λ h. absurd h), λ w. absurd (unmet-no-way-out unmet S w)) }
+
+  pub unmet-clashes : ¬ Together g 0 → Exactly (Clash g) (0 ∷ [])
+  unmet-clashes unmet = record {
+    rising = ((λ R h. absurd h), tt);
+    exact = λ C. (⊎-elim (unmet-empty-clash unmet C .1) (λ h. absurd h), λ c. inl (unmet-empty-clash unmet C .0 c));
+  }

@@ -22,3 +22,5 @@ pub mod CheckLaws
 pub mod Refusals
 -- what is judged of a setup's clauses
 pub mod JudgeLaws
+-- what a job's result says of the sets that it gives out
+pub mod GivenOut

@@ -4,13 +4,14 @@ use mathlib.Core.Bool.{cond, _||_, not}
 use mathlib.Core.List.{List, [], _∷_, _++_}
 use Prim.Native.Nat.{ℕ}
 use lib.Dec.{ltb, eqb}
-use lib.ListN.{length, drop}
+use lib.ListN.{length}
 use Rattle.setups.specs.declared.Refusal.the-variants.{Vars, Size, Literal, Tail, Long, Spent, Room}
 use Rattle.setups.specs.Limits.{variablesMost, hardBytesMost, assumedMost}
 use Rattle.setups.specs.Clauses.{clauses}
 use Rattle.setups.specs.Search.{Found, Model, None}
 use Rattle.setups.specs.Searching.{search}
 use Rattle.setups.specs.Refusals.{numberOf, finished, noModel, check, noLiteral, noClauseByte, offends, ended, long}
+use Rattle.setups.specs.Written.{written}
 
 -- the answer's number, the visit count that Model and None tell (else 0), and the model buffer afterwards
 pub record AskResult : Type 0 where
@@ -37,12 +38,12 @@ askRefusal n bytes assumed room =
     (check (not (ended bytes)) Tail
     (check (long bytes) Long 0)))))
 
--- the model's bytes, a byte a variable; places beyond stay as they were
-abbrev pub found : ℕ → ℕ → List ℕ → Found → AskResult
-found n budget places (Model m visits) =
+-- after the search, under a budget: the model's bytes are written, a byte a variable
+abbrev pub searchedResult : ℕ → List ℕ → Found → AskResult
+searchedResult budget places (Model m visits) =
     cond (ltb budget visits) (record { number = numberOf Spent; visits = 0; model = places })
-    (record { number = finished; visits = visits; model = m ++ drop n places })
-found n budget places (None visits) =
+    (record { number = finished; visits = visits; model = written m places })
+searchedResult budget places (None visits) =
     cond (ltb budget visits) (record { number = numberOf Spent; visits = 0; model = places })
     (record { number = noModel; visits = visits; model = places })
 
@@ -52,7 +53,7 @@ unfolding search
 askResult n bytes assumed budget places =
     let refusal = askRefusal n bytes assumed (length places) in
     let refused : AskResult = record { number = refusal; visits = 0; model = places } in
-    let answered = found n budget places (search n (askClauses bytes assumed)) in
+    let answered = searchedResult budget places (search n (askClauses bytes assumed)) in
     cond (eqb refusal 0) answered refused
 
 -- two variables, (1 2), (1 −2), (−1 2): the third visit has the model 1, 1, and the third place stays; the budget 2 is spent

@@ -1,11 +1,11 @@
 -- What List gives back, for all arguments (document 01, "Ways out and clashes" and "What comes back when it can't").
 use mathlib.Core.Path.{_≡_, refl}
-use mathlib.Core.Logic.{_↔_}
+use mathlib.Core.Logic.{_⊎_, _↔_}
 use mathlib.Core.Bool.{Bool, cond, _||_}
 use mathlib.Core.List.{List, [], _∷_}
-use Prim.Native.Nat.{ℕ}
+use Prim.Native.Nat.{ℕ, _≤_, _<_}
 use lib.Dec.{T, ltb, leb, eqb}
-use lib.ListN.{length, take, replicate}
+use lib.ListN.{length, take, drop, replicate}
 use Rattle.sets.specs.Lists.{Exactly}
 use Rattle.setups.specs.declared.Refusal.the-variants.{Vars, Size, Work, TooMany}
 use Rattle.setups.specs.Limits.{variablesMost, hardBytesMost, softBytesMost, setsMost}
@@ -42,6 +42,36 @@ example-given-out :
     (givenOut (5 ∷ 6 ∷ []) (9 ∷ 9 ∷ 9 ∷ []) (9 ∷ 9 ∷ 9 ∷ 9 ∷ []) ≡ record { number = 0; filled = 2; list = 5 ∷ 6 ∷ 9 ∷ []; scratch = 0 ∷ 0 ∷ 0 ∷ 0 ∷ [] })
     × (givenOut (5 ∷ 6 ∷ []) (9 ∷ []) (9 ∷ 9 ∷ []) ≡ record { number = 8; filled = 0; list = 9 ∷ []; scratch = 0 ∷ 0 ∷ [] })
 example-given-out = (refl, refl)
+
+-- ---- what giving out says of the sets that have P: of List's ways out, and of Turn's smallest sets across a list
+
+-- the room holds them; there are more than it holds
+abbrev pub Fits : (ℕ → Type 0) → ℕ → Type 0
+Fits P room = (sets : List ℕ) × Exactly P sets × (length sets ≤ room)
+
+abbrev pub Exceeds : (ℕ → Type 0) → ℕ → Type 0
+Exceeds P room = (sets : List ℕ) × Exactly P sets × (room < length sets)
+
+-- Listed: the places filled hold exactly these sets, rising, and are so many; the places beyond stay, and the whole scratch is zero
+pub record HoldsExactly (P : ℕ → Type 0) (list scratch : List ℕ) (r : ListResult) : Type 0 where
+  pub sets : Exactly P (listedSets r)
+  pub places : r .filled ≡ length (listedSets r)
+  pub room : r .filled ≤ length list
+  pub beyond : drop (r .filled) (r .list) ≡ drop (r .filled) list
+  pub zeros : r .scratch ≡ zeroed scratch
+
+-- The result r of a job that gives them out where it has `Passed` all that comes before.
+pub record GivesExactly (Passed : Type 0) (P : ℕ → Type 0) (list scratch : List ℕ) (r : ListResult) : Type 0 where
+  -- Listed or TooMany then
+  pub either : Passed → (r .number ≡ finished) ⊎ (r .number ≡ numberOf TooMany)
+  -- Listed exactly where they fit
+  pub lists : (r .number ≡ finished) ↔ (Passed × Fits P (length list))
+  pub holds : r .number ≡ finished → HoldsExactly P list scratch r
+  -- TooMany exactly where they don't; it leaves the list buffer
+  pub exceeds : (r .number ≡ numberOf TooMany) ↔ (Passed × Exceeds P (length list))
+  pub leaves : r .number ≡ numberOf TooMany → r ≡ without-list (numberOf TooMany) list (zeroed scratch)
+
+-- ---- List
 
 -- 1, 2, 3, 4, 5, 6, 7; 0 where none is given. Work: "scratch shorter than room + 1"
 abbrev pub listRefusal : ℕ → List ℕ → List ℕ → ℕ → ℕ → ℕ

@@ -24,10 +24,12 @@ turnRefusal n given room scratchRoom =
 example-turn-refusal : (turnRefusal 1 (0 ∷ 1 ∷ []) 4 5 ≡ 9) × (turnRefusal 2 (1 ∷ 2 ∷ []) 4 5 ≡ 0)
 example-turn-refusal = (refl, refl)
 
+-- a refusal writes nothing; where none is given the turn is given out
+abbrev pub turnedResult : ℕ → List ℕ → List ℕ → List ℕ → ListResult
+turnedResult refusal turned list scratch = cond (eqb refusal 0) (givenOut turned list scratch) (without-list refusal list scratch)
+
 -- The result r of Turn: `turned` is the turn of the given list over n settings.
 pub record TurnGives (n : ℕ) (given list scratch : List ℕ) (r : ListResult) : Type 0 where
   pub turned : List ℕ
   pub exact : Turned n given turned
-  pub says :
-      r ≡ (let refusal = turnRefusal n given (length list) (length scratch) in
-      cond (eqb refusal 0) (givenOut turned list scratch) (without-list refusal list scratch))
+  pub says : r ≡ turnedResult (turnRefusal n given (length list) (length scratch)) turned list scratch

@@ -1,5 +1,5 @@
 -- From the whole branch to the turn: where the search begins, and what it gives out at its end.
-use mathlib.Core.Path.{_≡_}
+use mathlib.Core.Path.{_≡_, subst, _∙_}
 use mathlib.Core.Logic.{inr, ⊎-elim, _↔_}
 use mathlib.Core.List.{List, _++_}
 use Prim.Native.Nat.{ℕ, _-_, _^_, _≤_, _<_}
@@ -23,7 +23,9 @@ use Rattle.setups.proofs.Refusals.{refused-number}
 use Rattle.turn.specs.declared.Turning.the-variants.{Listed, Refused}
 use Rattle.turn.specs.Branches.{Branch}
 use Rattle.turn.specs.Growing.{Grown}
-use Rattle.turn.specs.Turning.{answered, GivesOut}
+use Rattle.turn.specs.Giving.{GivesTurn}
+use Rattle.turn.specs.Turning.{answered}
+use Rattle.turn.proofs.Promise.{turns-exist}
 
 -- ---- the beginning
 
@@ -60,7 +62,7 @@ module _ (n : ℕ) {given : List ℕ} (list : List ℕ) {scratch after : List �
 
   -- it fits, and is given out
   pub gives-list : {listAfter scratchAfter : List ℕ} → found ≤ length list → listAfter ≡ take found after ++ drop found list
-      → scratchAfter ≡ replicate (length after) 0 → GivesOut n given list scratch (answered (Listed found) listAfter scratchAfter)
+      → scratchAfter ≡ replicate (length after) 0 → GivesTurn n given list scratch (answered (Listed found) listAfter scratchAfter)
   gives-list l e z = record {
     turned = take found after;
     exact = found-turned l;
@@ -69,7 +71,7 @@ module _ (n : ℕ) {given : List ℕ} (list : List ℕ) {scratch after : List �
 
   -- the turn is longer than the room
   pub gives-too-many : {scratchAfter : List ℕ} → length list < found → scratchAfter ≡ replicate (length after) 0
-      → GivesOut n given list scratch (answered (Refused TooMany) list scratchAfter)
+      → GivesTurn n given list scratch (answered (Refused TooMany) list scratchAfter)
   gives-too-many l z =
       let t = turn-exists n given in
       let longer : found ≤ length (t .0) = rw (length-take-le found after fits) at (rising-shorter (take found after) (t .0) (grown .rising) (t .1 .rising) (λ S h. t .1 .exact S .1 (found-cross S h))) in
@@ -82,9 +84,9 @@ module _ (n : ℕ) (given list scratch : List ℕ) where
   pub turn-refused : (refusal : Refusal) → turnRefusal n given (length list) (length scratch) ≡ numberOf refusal
       → TurnGives n given list scratch (answered (Refused refusal) list scratch)
   turn-refused refusal e =
-      let t = turn-exists n given in
-      record { turned = t .0; exact = t .1; says = rw (e, ne-eqb (numberOf refusal) 0 (refused-number refusal)) }
+      let p = turns-exist n given list scratch .1 in
+      subst (TurnGives n given list scratch) (p .says ∙ rw (e, ne-eqb (numberOf refusal) 0 (refused-number refusal))) p
 
   -- all pass
-  pub turn-taken : (r : ListResult) → turnRefusal n given (length list) (length scratch) ≡ 0 → GivesOut n given list scratch r → TurnGives n given list scratch r
+  pub turn-taken : (r : ListResult) → turnRefusal n given (length list) (length scratch) ≡ 0 → GivesTurn n given list scratch r → TurnGives n given list scratch r
   turn-taken r e g = record { turned = g .turned; exact = g .exact; says = rw e (g .says) }

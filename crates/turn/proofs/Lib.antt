@@ -10,9 +10,5 @@ mod Growth
 mod Splitting
 -- where the search begins and ends
 mod Ends
--- the turn of a list that is spelled out
-mod Computed
--- what a finished job leaves
-mod Finished
--- no second result, turning twice, and programs that the promise rejects
+-- no second result, what each answer says, and turning twice
 pub mod Promise

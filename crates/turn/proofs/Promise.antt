@@ -1,139 +1,153 @@
--- What Turn's promise says: there is no second result, a finished list of List turns into the clashes and back, any fine list turned
--- twice is itself; and programs that the promise rejects.
+-- What Turn's promise says: there is no second result, each answer means what document 01 says, a list that may be turned turns into
+-- its turn, which turns back, and the ways out of a setup turn into its clashes and back.
 use mathlib.Core.Path.{_≡_, refl, sym, ap, _∙_}
-use mathlib.Core.Logic.{inl, ⊎-elim}
-use mathlib.Core.Bool.{cond}
+use mathlib.Core.Logic.{_≢_, _↔_}
+use mathlib.Core.Bool.{not, _||_}
 use mathlib.Core.List.{List, [], _∷_}
-use Prim.Native.Nat.{ℕ}
+use Prim.Native.Nat.{ℕ, _≤_, _<_}
 use native.Mathlib.Omega.{arith}
-use lib.Dec.{eqb}
-use lib.ListN.{length, getD, take}
-use Rattle.sets.specs.Lists.{Exactly}
-use Rattle.sets.specs.Turns.{Turned}
-use Rattle.sets.proofs.Lists.{exactly-unique}
-use Rattle.sets.proofs.Turning.{turn-unique, turn-twice, turn-of-empty, turn-of-nothing}
-use Rattle.setups.specs.Setups.{setup, count, WayOut, Clash}
-use Rattle.setups.specs.Refusals.{finished, unmet}
-use Rattle.setups.specs.declared.Refusal.{Refusal}
-use Rattle.setups.specs.List.{ListResult, listedSets, without-list, givenOut, ListGives}
-use Rattle.setups.specs.Turn.{turnRefusal, TurnGives}
-use Rattle.setups.proofs.Duality.{clashes-turn, ways-out-turn, unmet-empty-clash}
-use Rattle.setups.proofs.Refusals.{number-only, refused-number}
+use borrow.Author.Tests.{le-ltb, lt-leb, eqb-true, eqb-false, ltb-false, leb-false, not-false}
+use lib.Dec.{ltb, leb, eqb}
+use lib.ListN.{length}
+use Rattle.sets.specs.Lists.{Among, Exactly}
+use Rattle.sets.specs.Tests.{fine}
+use Rattle.sets.specs.Turns.{SmallestCross, Turned}
+use Rattle.numbers.proofs.Deciding.{T-true, neither, cond-case}
+use Rattle.sets.proofs.Tests.{fine-iff}
+use Rattle.sets.proofs.Turning.{turn-exists, turn-unique, turned-fine, turn-back, turn-of-empty, turn-of-nothing}
+use Rattle.setups.specs.declared.Refusal.the-variants.{Size, Work, Softs, TooMany, List as NotAList}
+use Rattle.setups.specs.Limits.{setsMost, settingsMost}
+use Rattle.setups.specs.Setups.{Setup, count, WayOut, Clash}
+use Rattle.setups.specs.Refusals.{numberOf, finished}
+use Rattle.setups.specs.List.{ListResult, listedSets, without-list, givenOut}
+use Rattle.setups.specs.Turn.{turnRefusal, turnedResult, TurnGives}
+use Rattle.setups.proofs.Duality.{clashes-turned, ways-out-turned}
+use Rattle.setups.proofs.GivenOut.{number-so, filled-so, list-so, scratch-so, gives-nothing, gives-exactly}
+use Rattle.setups.proofs.Refusals.{number-only, refused-number, check-none}
 use Rattle.turn.specs.declared.Turning.{Turning}
 use Rattle.turn.specs.declared.Turning.the-variants.{Listed, Refused}
 use Rattle.turn.specs.Turning.{answered, Turns}
-use Rattle.turn.proofs.Computed.{turn-p4, back-p4, back-p14}
-use Rattle.turn.proofs.Finished.{turn-finished, list-finished, list-unmet}
+use Rattle.turn.specs.Meaning.{Turnable, TurnMeans}
 
--- ---- no second result
+-- ---- a result, and no second one
 
-pub turns-only : (n : ℕ) (given list scratch : List ℕ) (r s : ListResult) → TurnGives n given list scratch r → TurnGives n given list scratch s → r ≡ s
-turns-only n given list scratch r s p q =
-    p .says ∙ ap out (turn-unique n given (p .turned) (q .turned) (p .exact) (q .exact)) ∙ sym (q .says)
-  where
-    out : List ℕ → ListResult
-    out turned =
-        let refusal = turnRefusal n given (length list) (length scratch) in
-        cond (eqb refusal 0) (givenOut turned list scratch) (without-list refusal list scratch)
+pub turns-exist : (n : ℕ) (given list scratch : List ℕ) → (r : ListResult) × TurnGives n given list scratch r
+turns-exist n given list scratch =
+    let t = turn-exists n given in
+    (turnedResult (turnRefusal n given (length list) (length scratch)) (t .0) list scratch, record { turned = t .0; exact = t .1; says = refl })
+
+pub turn-result-only : (n : ℕ) (given list scratch : List ℕ) (r s : ListResult) → TurnGives n given list scratch r → TurnGives n given list scratch s → r ≡ s
+turn-result-only n given list scratch r s p q = p .says ∙ rw (turn-unique n given (p .turned) (q .turned) (p .exact) (q .exact)) (sym (q .says))
 
 -- one result comes from one answer and two buffers
 answered-only : (answer other : Turning) (list scratch listToo scratchToo : List ℕ) → answered answer list scratch ≡ answered other listToo scratchToo
     → (answer ≡ other) × (list ≡ listToo) × (scratch ≡ scratchToo)
-answered-only (Listed n) (Listed m) list scratch listToo scratchToo e =
-    (ap Listed (ap (λ (r : ListResult). r .filled) e), ap (λ (r : ListResult). r .list) e, ap (λ (r : ListResult). r .scratch) e)
-answered-only (Listed n) (Refused b) list scratch listToo scratchToo e = absurd (refused-number b (sym (ap (λ (r : ListResult). r .number) e)))
-answered-only (Refused a) (Listed m) list scratch listToo scratchToo e = absurd (refused-number a (ap (λ (r : ListResult). r .number) e))
-answered-only (Refused a) (Refused b) list scratch listToo scratchToo e =
-    (ap Refused (number-only a b (ap (λ (r : ListResult). r .number) e)), ap (λ (r : ListResult). r .list) e, ap (λ (r : ListResult). r .scratch) e)
+answered-only (Listed n) (Listed m) list scratch listToo scratchToo e = (ap Listed (filled-so e), list-so e, scratch-so e)
+answered-only (Listed n) (Refused b) list scratch listToo scratchToo e = absurd (refused-number b (sym (number-so e)))
+answered-only (Refused a) (Listed m) list scratch listToo scratchToo e = absurd (refused-number a (number-so e))
+answered-only (Refused a) (Refused b) list scratch listToo scratchToo e = (ap Refused (number-only a b (number-so e)), list-so e, scratch-so e)
 
 pub turn-only : (n : ℕ) (given list scratch : List ℕ) (answer other : Turning) (listAfter scratchAfter listToo scratchToo : List ℕ)
     → Turns n given list scratch answer listAfter scratchAfter → Turns n given list scratch other listToo scratchToo
     → (answer ≡ other) × (listAfter ≡ listToo) × (scratchAfter ≡ scratchToo)
 turn-only n given list scratch answer other listAfter scratchAfter listToo scratchToo p q =
     answered-only answer other listAfter scratchAfter listToo scratchToo
-    (turns-only n given list scratch (answered answer listAfter scratchAfter) (answered other listToo scratchToo) p q)
+    (turn-result-only n given list scratch (answered answer listAfter scratchAfter) (answered other listToo scratchToo) p q)
 
--- ---- turning twice: `given` and what came of it over the same count, both turns finished
+-- ---- what each answer means
 
-pub turned-twice : (n : ℕ) (given list scratch list′ scratch′ : List ℕ) (r s : ListResult) → TurnGives n given list scratch r → r .number ≡ finished
-    → TurnGives n (listedSets r) list′ scratch′ s → s .number ≡ finished → listedSets s ≡ given
-turned-twice n given list scratch list′ scratch′ r s p f q g =
-    let first = turn-finished n given list scratch r p f in
-    let second = turn-finished n (listedSets r) list′ scratch′ s q g in
-    turn-twice n given (first .0) (listedSets r) (listedSets s) (first .1) (second .1)
+module _ (n : ℕ) (given : List ℕ) (room scratchRoom : ℕ) where
+  -- the checks before the search give 7, 2, 3 or 9, or none
+  pub turn-most : (turnRefusal n given room scratchRoom ≤ 9) × (turnRefusal n given room scratchRoom ≢ numberOf TooMany)
+  turn-most =
+      cond-case Small (ltb settingsMost n) (λ e. omega arith) (λ e. cond-case Small (ltb setsMost (length given) || ltb setsMost room) (λ e. omega arith)
+      (λ e. cond-case Small (leb scratchRoom room) (λ e. omega arith) (λ e. cond-case Small (not (fine n given)) (λ e. omega arith) (λ e. omega arith))))
+    where
+      Small : ℕ → Type 0
+      Small x = (x ≤ 9) × (x ≢ numberOf TooMany)
 
--- the empty list turns into the list of the empty set alone
-pub turn-empty : (n : ℕ) (list scratch : List ℕ) (r : ListResult) → TurnGives n [] list scratch r → r .number ≡ finished → listedSets r ≡ 0 ∷ []
-turn-empty n list scratch r p f = turn-unique n [] (listedSets r) (0 ∷ []) (turn-finished n [] list scratch r p f .1) (turn-of-empty n)
+  -- none is given exactly when the list may be turned
+  pub turnable-iff : (turnRefusal n given room scratchRoom ≡ 0) ↔ Turnable n given room scratchRoom
+  turnable-iff = (to, from)
+    where
+      to : turnRefusal n given room scratchRoom ≡ 0 → Turnable n given room scratchRoom
+      to e =
+          let softs = check-none (ltb settingsMost n) Softs _ e in
+          let size = check-none (ltb setsMost (length given) || ltb setsMost room) Size _ (softs .1) in
+          let sizes = neither (ltb setsMost (length given)) (ltb setsMost room) (size .0) in
+          let work = check-none (leb scratchRoom room) Work _ (size .1) in
+          let list = check-none (not (fine n given)) NotAList 0 (work .1) in
+          record {
+            settings = ltb-false settingsMost n (softs .0);
+            sets = ltb-false setsMost (length given) (sizes .0);
+            places = ltb-false setsMost room (sizes .1);
+            work = leb-false scratchRoom room (work .0);
+            fine = fine-iff n given .0 (T-true (fine n given) .1 (not-false (fine n given) (list .0)));
+          }
 
--- and the other way about
-pub turn-empty-set : (n : ℕ) (list scratch : List ℕ) (r : ListResult) → TurnGives n (0 ∷ []) list scratch r → r .number ≡ finished → listedSets r ≡ []
-turn-empty-set n list scratch r p f = turn-unique n (0 ∷ []) (listedSets r) [] (turn-finished n (0 ∷ []) list scratch r p f .1) (turn-of-nothing n)
+      from : Turnable n given room scratchRoom → turnRefusal n given room scratchRoom ≡ 0
+      from t =
+          rw (le-ltb settingsMost n (t .settings), le-ltb setsMost (length given) (t .sets), le-ltb setsMost room (t .places), lt-leb scratchRoom room (t .work), T-true (fine n given) .0 (fine-iff n given .1 (t .fine)))
 
--- ---- from a list of List
+pub turn-means : (n : ℕ) (given list scratch : List ℕ) (r : ListResult) → TurnGives n given list scratch r
+    → TurnMeans n given (turnRefusal n given (length list) (length scratch)) list scratch r
+turn-means n given list scratch r p = cond-case (λ (x : ListResult). r ≡ x → Meant) (eqb refusal 0) (λ e. given-out (eqb-true refusal 0 e)) (λ e. refused (eqb-false refusal 0 e)) (p .says)
+  where
+    refusal : ℕ
+    refusal = turnRefusal n given (length list) (length scratch)
 
-module _ (n : ℕ) (hard soft list scratch : List ℕ) (r : ListResult) (lists : ListGives n hard soft list scratch r) where
-  -- a finished one turns into exactly the clashes
-  module _ (done : r .number ≡ finished) (list′ scratch′ : List ℕ) (s : ListResult)
-      (turns : TurnGives (count (setup n hard soft)) (listedSets r) list′ scratch′ s) (done′ : s .number ≡ finished) where
-    pub turn-clashes : Exactly (Clash (setup n hard soft)) (listedSets s)
-    turn-clashes =
-        clashes-turn (setup n hard soft) (listedSets r) (listedSets s) (list-finished n hard soft list scratch r lists done)
-        (turn-finished (count (setup n hard soft)) (listedSets r) list′ scratch′ s turns done′ .1)
+    Meant : Type 0
+    Meant = TurnMeans n given refusal list scratch r
 
-    -- and those turn into the ways out again
-    pub turn-ways-out : (list″ scratch″ : List ℕ) (t : ListResult) → TurnGives (count (setup n hard soft)) (listedSets s) list″ scratch″ t → t .number ≡ finished
-        → Exactly (WayOut (setup n hard soft)) (listedSets t) × (listedSets t ≡ listedSets r)
-    turn-ways-out list″ scratch″ t again done″ =
-        let turned = turn-finished (count (setup n hard soft)) (listedSets s) list″ scratch″ t again done″ .1 in
-        let ways = ways-out-turn (setup n hard soft) (listedSets s) (listedSets t) turn-clashes turned in
-        (ways, exactly-unique (WayOut (setup n hard soft)) (listedSets t) (listedSets r) ways (list-finished n hard soft list scratch r lists done))
+    Cross : ℕ → Type 0
+    Cross = SmallestCross n (λ M. Among M given)
 
-  -- under Unmet the list is empty, and its turn is the list of the empty set, the only clash
-  pub turn-unmet : r .number ≡ unmet → (list′ scratch′ : List ℕ) (s : ListResult) → TurnGives (count (setup n hard soft)) (listedSets r) list′ scratch′ s
-      → s .number ≡ finished → (listedSets s ≡ 0 ∷ []) × Exactly (Clash (setup n hard soft)) (listedSets s)
-  turn-unmet none list′ scratch′ s turns done =
-      let empty = list-unmet n hard soft list scratch r lists none in
-      let only = turn-empty (count (setup n hard soft)) list′ scratch′ s (rw (empty .0) at turns) done in (
-        only,
-        rw only (record {
-          rising = ((λ R h. absurd h), tt);
-          exact = λ C. (
-            ⊎-elim (unmet-empty-clash (setup n hard soft) (empty .1) C .1) (λ h. absurd h),
-            λ c. inl (unmet-empty-clash (setup n hard soft) (empty .1) C .0 c),
-          );
-        }),
-      )
+    given-out : refusal ≡ 0 → r ≡ givenOut (p .turned) list scratch → Meant
+    given-out none q = record { refused = λ some. absurd (some none); gives = rw q (gives-exactly (refusal ≡ 0) Cross list scratch none (p .turned) (p .exact)) }
 
--- ---- rejected
+    refused : refusal ≢ 0 → r ≡ without-list refusal list scratch → Meant
+    refused some q = record {
+      refused = λ k. q;
+      gives = gives-nothing (refusal ≡ 0) Cross list scratch some r (λ k. some (sym (number-so q) ∙ k))
+          (λ k. turn-most n given (length list) (length scratch) .1 (sym (number-so q) ∙ k));
+    }
 
--- a result that is told to have listed some sets has listed the turn
-listed-turned : (n k : ℕ) (given list scratch listAfter scratchAfter turned : List ℕ) → Turned n given turned
-    → Turns n given list scratch (Listed k) listAfter scratchAfter → take k listAfter ≡ turned
-listed-turned n k given list scratch listAfter scratchAfter turned t p =
-    turn-unique n given (take k listAfter) turned (turn-finished n given list scratch (answered (Listed k) listAfter scratchAfter) p refl .1) t
+-- ---- what a list that may be turned turns into
 
--- a turn that copies its input, on P4's ways out
-pub turn-not-copied : (list scratch rest scratchAfter : List ℕ) → ¬ Turns 4 (5 ∷ 6 ∷ 10 ∷ []) list scratch (Listed 3) (5 ∷ 6 ∷ 10 ∷ rest) scratchAfter
-turn-not-copied list scratch rest scratchAfter p =
-    let e = listed-turned 4 3 (5 ∷ 6 ∷ 10 ∷ []) list scratch (5 ∷ 6 ∷ 10 ∷ rest) scratchAfter (3 ∷ 6 ∷ 12 ∷ []) turn-p4 p in
-    omega (arith, ap (λ (l : List ℕ). getD l 0 0) e)
+-- its turn, refused for want of room alone
+pub turn-gives : (n : ℕ) (given turned list scratch : List ℕ) (r : ListResult) → Turnable n given (length list) (length scratch) → Turned n given turned
+    → TurnGives n given list scratch r → r ≡ givenOut turned list scratch
+turn-gives n given turned list scratch r t u p =
+    p .says ∙ rw (turnable-iff n given (length list) (length scratch) .1 t, turn-unique n given (p .turned) turned (p .exact) u)
 
--- one that skips the second turn's work: P4's clashes turn into its ways out and into no other list
-pub turn-not-skipped : (k : ℕ) (list scratch listAfter scratchAfter : List ℕ) → Turns 4 (3 ∷ 6 ∷ 12 ∷ []) list scratch (Listed k) listAfter scratchAfter
-    → take k listAfter ≡ 5 ∷ 6 ∷ 10 ∷ []
-turn-not-skipped k list scratch listAfter scratchAfter =
-    listed-turned 4 k (3 ∷ 6 ∷ 12 ∷ []) list scratch listAfter scratchAfter (5 ∷ 6 ∷ 10 ∷ []) back-p4
+module _ (list scratch : List ℕ) (room : length list ≤ setsMost) (work : length list < length scratch) where
+  -- of two lists that are each other's turn, either turns into the other
+  turn-between : (n : ℕ) (given turned : List ℕ) → n ≤ settingsMost → length given ≤ setsMost → Turned n given turned → Turned n turned given → (r : ListResult)
+      → TurnGives n given list scratch r → r ≡ givenOut turned list scratch
+  turn-between n given turned few short t back r =
+      turn-gives n given turned list scratch r (record { settings = few; sets = short; places = room; work = work; fine = turned-fine n turned given back }) t
 
--- one that lists only the sets of fewest members, on P14's clashes
-pub turn-not-fewest : (list scratch rest scratchAfter : List ℕ) → ¬ Turns 3 (3 ∷ 5 ∷ []) list scratch (Listed 1) (1 ∷ rest) scratchAfter
-turn-not-fewest list scratch rest scratchAfter p =
-    let e = listed-turned 3 1 (3 ∷ 5 ∷ []) list scratch (1 ∷ rest) scratchAfter (1 ∷ 6 ∷ []) back-p14 p in
-    omega (arith, ap length e)
+  -- the empty list turns into the list of the empty set alone, and the other way about
+  pub turn-empty : (n : ℕ) → n ≤ settingsMost → (r : ListResult) → TurnGives n [] list scratch r → r ≡ givenOut (0 ∷ []) list scratch
+  turn-empty n few = turn-between n [] (0 ∷ []) few (omega arith) (turn-of-empty n) (turn-of-nothing n)
 
--- one that refuses everything, on P4's ways out with room for their turn
-pub turn-not-refused : (refusal : Refusal) (listAfter scratchAfter : List ℕ)
-    → ¬ Turns 4 (5 ∷ 6 ∷ 10 ∷ []) (0 ∷ 0 ∷ 0 ∷ []) (0 ∷ 0 ∷ 0 ∷ 0 ∷ []) (Refused refusal) listAfter scratchAfter
-turn-not-refused refusal listAfter scratchAfter p =
-    let e = turn-unique 4 (5 ∷ 6 ∷ 10 ∷ []) (p .turned) (3 ∷ 6 ∷ 12 ∷ []) (p .exact) turn-p4 in
-    refused-number refusal (ap (λ (r : ListResult). r .number) (rw e at (p .says)))
+  pub turn-empty-set : (n : ℕ) → n ≤ settingsMost → (r : ListResult) → TurnGives n (0 ∷ []) list scratch r → r ≡ givenOut [] list scratch
+  turn-empty-set n few = turn-between n (0 ∷ []) [] few (omega arith) (turn-of-nothing n) (turn-of-empty n)
+
+  -- what a finished turn has listed turns into the list that it was given
+  pub turned-twice : (n : ℕ) (given list₁ scratch₁ : List ℕ) (r s : ListResult) → TurnGives n given list₁ scratch₁ r → r .number ≡ finished
+      → TurnGives n (listedSets r) list scratch s → s ≡ givenOut given list scratch
+  turned-twice n given list₁ scratch₁ r s p done =
+      let gives = turn-means n given list₁ scratch₁ r p .gives in
+      let held = gives .holds done in
+      let taken = turnable-iff n given (length list₁) (length scratch₁) .0 (gives .lists .0 done .0) in
+      turn-between n (listedSets r) given (taken .settings) (omega (arith, held .places, held .room, taken .places)) (turn-back n given (taken .fine) (listedSets r) (held .sets))
+      (held .sets) s
+
+  -- the ways out of a setup turn into its clashes, and those into the ways out
+  module _ (g : Setup) (few : count g ≤ settingsMost) (ways clashes : List ℕ) (w : Exactly (WayOut g) ways) (c : Exactly (Clash g) clashes) (r : ListResult) where
+    pub turn-clashes : length ways ≤ setsMost → TurnGives (count g) ways list scratch r → r ≡ givenOut clashes list scratch
+    turn-clashes short = turn-between (count g) ways clashes few short (clashes-turned g ways clashes w c) (ways-out-turned g ways clashes w c) r
+
+    pub turn-ways-out : length clashes ≤ setsMost → TurnGives (count g) clashes list scratch r → r ≡ givenOut ways list scratch
+    turn-ways-out short = turn-between (count g) clashes ways few short (ways-out-turned g ways clashes w c) (clashes-turned g ways clashes w c) r

@@ -1,4 +1,7 @@
--- What Turn's parts promise each other, its answer as the result that document 01 describes, and its promise.
+-- Turn's answer as the result that document 01 describes, its promise, and what that says.
+pub mod Turning
+pub mod Meaning
+-- what its parts promise each other
 pub mod Branches
 pub mod Growing
-pub mod Turning
+pub mod Giving

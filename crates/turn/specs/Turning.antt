@@ -3,8 +3,7 @@ use mathlib.Core.Path.{_≡_, refl}
 use mathlib.Core.List.{List, [], _∷_}
 use Prim.Native.Nat.{ℕ}
 use Rattle.setups.specs.Refusals.{numberOf, finished}
-use Rattle.sets.specs.Turns.{Turned}
-use Rattle.setups.specs.List.{ListResult, without-list, givenOut}
+use Rattle.setups.specs.List.{ListResult, without-list}
 use Rattle.setups.specs.Turn.{TurnGives}
 use Rattle.setups.specs.declared.Refusal.the-variants.{TooMany}
 use Rattle.turn.specs.declared.Turning.{Turning}
@@ -18,12 +17,6 @@ answered (Refused refusal) list scratch = without-list (numberOf refusal) list s
 -- TooMany is refusal 8, and fills no place
 example-answered : answered (Refused TooMany) (9 ∷ []) (0 ∷ 0 ∷ []) ≡ record { number = 8; filled = 0; list = 9 ∷ []; scratch = 0 ∷ 0 ∷ [] }
 example-answered = refl
-
--- What comes after the checks: `turned` is the turn of the given list over n settings, and is given out if it fits.
-pub record GivesOut (n : ℕ) (given list scratch : List ℕ) (r : ListResult) : Type 0 where
-  pub turned : List ℕ
-  pub exact : Turned n given turned
-  pub says : r ≡ givenOut turned list scratch
 
 -- The promise: over n settings, the given list and the two buffers, the answer leaves `listAfter` and `scratchAfter` in them.
 abbrev pub Turns : ℕ → List ℕ → List ℕ → List ℕ → Turning → List ℕ → List ℕ → Type 0

@@ -21,7 +21,8 @@ ghost use lib.ListN.{length, take, drop};
 ghost use Rattle.setups.specs.Limits.{settingsMost};
 ghost use Rattle.turn.specs.Branches.{Branch, TurnsOn};
 ghost use Rattle.turn.specs.Growing.{placed, Ready, Grown};
-ghost use Rattle.turn.specs.Turning.{answered, GivesOut, Turns};
+ghost use Rattle.turn.specs.Giving.{GivesTurn};
+ghost use Rattle.turn.specs.Turning.{answered, Turns};
 
 // What Turn answers: it has listed so many sets, or refuses.
 pub enum Turning {
@@ -119,7 +120,7 @@ fn split(
 // Finds the turn in the scratch and gives it out, if it fits; the scratch is zero afterwards.
 fn give_out(count: u32, given: &[Set], list: &mut [Set], scratch: &mut [Set]) -> Turning
     requires { ⌜ (count ≤ settingsMost) × (length (now list) < length (now scratch)) ⌝ }
-    ensures { λ r. ⌜ GivesOut count (now (given .entry)) (now (list .entry)) (now (scratch .entry)) (answered r (now (list .exit)) (now (scratch .exit))) ⌝ }
+    ensures { λ r. ⌜ GivesTurn count (now (given .entry)) (now (list .entry)) (now (scratch .entry)) (answered r (now (list .exit)) (now (scratch .exit))) ⌝ }
 {
     let room = list.len();
     let found = branch(given, EMPTY, full(count), scratch, 0, room);

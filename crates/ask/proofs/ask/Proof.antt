@@ -2,7 +2,7 @@
 use mathlib.Core.Path.{sym, ap, _∙_}
 use borrow.Author.Needs.{needs}
 use Rattle.ask.specs.Checking.{refusalOf}
-use Rattle.ask.proofs.Answering.{refused-result, found-result}
+use Rattle.ask.proofs.Answering.{refused-result, searched-result}
 use Rattle.ask.proofs.ask.Statement.{statement}
 use Rattle.ask.proofs.ask.Tie as tie
 
@@ -34,7 +34,7 @@ returns-2 : tie.Need-returns-2
 returns-2 c =
     let at = c .before .before .before .before .before .before in
     let start = at .before .before .before .before .args in
-    c .before .before .answer .ensures ∙ found-result (start .count) (start .clauses .now) (start .assumed .now) (start .budget) (start .model .now)
+    c .before .before .answer .ensures ∙ searched-result (start .count) (start .clauses .now) (start .assumed .now) (start .budget) (start .model .now)
     (ap refusalOf (sym (c .before .before .before .before .enum-told .given .1)) ∙ at .first-refusal .ensures)
 
 pub ask-spec : {M : Type 1} → statement M

@@ -5,6 +5,7 @@ use Prim.Native.Nat.{ℕ, _≤_, _<_, _-_}
 use native.Mathlib.Omega.{arith}
 use borrow.Author.Needs.{needs}
 use lib.ListN.{length, getD, take, drop, set, length-set}
+use lib.Seq.{length-take-le}
 use Rattle.numbers.proofs.Places.{copy-next}
 use Rattle.ask.proofs.write_model.Statement.{statement}
 use Rattle.ask.proofs.write_model.Tie as tie
@@ -52,7 +53,7 @@ returns : tie.Need-returns Inv-loop μ-loop
 returns c =
     let at = c .before in
     let e : at .loop .i ≡ at .before .args .count = omega arith in
-    at .loop .inv .3 ∙ ap (λ (i : ℕ). take i (at .before .args .t2) ++ drop i (at .before .args .model .now)) e
+    at .loop .inv .3 ∙ rw (e, length-take-le (at .before .args .count) (at .before .args .t2) (omega arith))
 
 pub write-model-spec : {M : Type 1} → statement M
 write-model-spec =

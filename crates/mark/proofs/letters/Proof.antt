@@ -1,16 +1,17 @@
 -- `mark::letters` meets its contract: after i turns the first i places hold their marks and the others what they held.
 use mathlib.Core.Path.{_≡_, refl, ap, _∙_}
-use mathlib.Core.List.{List, _++_}
+use mathlib.Core.List.{List}
 use Prim.Native.Nat.{ℕ, _+_, _-_, _≤_}
 use native.Mathlib.Omega.{arith}
-use lib.ListN.{length, set, drop, length-set}
+use lib.ListN.{length, set, length-set}
 use Rattle.sets.specs.Marks.{mark, marks}
+use Rattle.setups.specs.Written.{written}
 use Rattle.mark.proofs.Writing.{marks-next}
 use Rattle.mark.proofs.letters.Statement.{statement}
 use Rattle.mark.proofs.letters.Tie as tie
 
 abbrev Inv-loop : tie.InvT-loop
-Inv-loop count list places₀ i₀ places i = (i ≤ count) × (length places ≡ length places₀) × (places ≡ marks i list ++ drop i places₀)
+Inv-loop count list places₀ i₀ places i = (i ≤ count) × (length places ≡ length places₀) × (places ≡ written (marks i list) places₀)
 
 abbrev μ-loop : tie.MeasureT-loop
 μ-loop count list places₀ i₀ places i = count - i

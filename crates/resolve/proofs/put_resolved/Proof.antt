@@ -1,7 +1,9 @@
 -- `put_resolved` meets its contract.
 use mathlib.Core.Path.{sym}
 use mathlib.Core.List.{[], _∷_}
+use Prim.Native.Nat.{_≤_}
 use native.Mathlib.Omega.{arith}
+use lib.ListN.{length}
 use lib.Seq.{length-take-le}
 use Rattle.setups.specs.Limits.{setsMost}
 use Rattle.setups.specs.Refusals.{unmet}
@@ -12,6 +14,20 @@ use Rattle.resolve.proofs.Answering.{list-refused, list-unmet, list-lis
 use borrow.Author.Needs.{needs}
 use Rattle.resolve.proofs.put_resolved.Statement.{statement}
 use Rattle.resolve.proofs.put_resolved.Tie as tie
+
+-- the arguments before List, and List before its answer
+abbrev start : tie.After-list → tie.Start
+start c = c .before .before .before .before .before .before
+
+abbrev found : tie.After-filled → tie.After-list
+found c = c .before .before .before .before
+
+-- what List has listed lies within its places
+within : (c : tie.After-filled) → c .filled .given .0 .0 ≤ length (found c .list .last .1 .1 .1 .0)
+within c =
+    let l = found c in
+    let a = start l .args in
+    list-places (a .count) (a .hard .now) (a .soft .now) (places setsMost) (places scratchPlaces) (l .list .result) (l .list .last .1 .1 .1 .0) _ (l .list .ensures) (c .filled .given .0 .0) (c .filled .given .1)
 
 slice-aggregate-list : tie.Need-slice-aggregate-list
 slice-aggregate-list c = search needs
@@ -44,37 +60,67 @@ settings-count-requires : tie.Need-settings-count-requires
 settings-count-requires c κs = search needs
 
 cast-put-turned : tie.Need-cast-put-turned
-cast-put-turned c = omega (arith, list-settings (c .before .before .before .before .before .before .before .before .before .before .before .before .args .count) (c .before .before .before .before .before .before .before .before .before .before .before .before .args .hard .now) (c .before .before .before .before .before .before .before .before .before .before .before .before .args .soft .now) (places setsMost) (places scratchPlaces) (c .before .before .before .before .before .before .list .result) (c .before .before .before .before .before .before .list .last .1 .1 .1 .0) _ (c .before .before .before .before .before .before .list .ensures) (c .before .before .filled .given .0 .0) (c .before .before .filled .given .1), c .settings-count .ensures)
+cast-put-turned c =
+    let f = c .before .before in
+    let l = found f in
+    let a = start l .args in
+    omega (arith, list-settings (a .count) (a .hard .now) (a .soft .now) (places setsMost) (places scratchPlaces) (l .list .result) (l .list .last .1 .1 .1 .0) _ (l .list .ensures) (f .filled .given .0 .0) (f .filled .given .1), c .settings-count .ensures)
 
 array-share-prefix-ways : tie.Need-array-share-prefix-ways
-array-share-prefix-ways c = list-places (c .before .before .before .before .before .before .before .before .before .before .before .before .args .count) (c .before .before .before .before .before .before .before .before .before .before .before .before .args .hard .now) (c .before .before .before .before .before .before .before .before .before .before .before .before .args .soft .now) (places setsMost) (places scratchPlaces) (c .before .before .before .before .before .before .list .result) (c .before .before .before .before .before .before .list .last .1 .1 .1 .0) _ (c .before .before .before .before .before .before .list .ensures) (c .before .before .filled .given .0 .0) (c .before .before .filled .given .1)
+array-share-prefix-ways c = within (c .before .before)
 
 slice-aggregate-put-turned : tie.Need-slice-aggregate-put-turned
-slice-aggregate-put-turned c = sym (length-take-le (c .before .before .before .filled .given .0 .0) (c .before .before .before .before .before .before .before .list .last .1 .1 .1 .0) (list-places (c .before .before .before .before .before .before .before .before .before .before .before .before .before .args .count) (c .before .before .before .before .before .before .before .before .before .before .before .before .before .args .hard .now) (c .before .before .before .before .before .before .before .before .before .before .before .before .before .args .soft .now) (places setsMost) (places scratchPlaces) (c .before .before .before .before .before .before .before .list .result) (c .before .before .before .before .before .before .before .list .last .1 .1 .1 .0) _ (c .before .before .before .before .before .before .before .list .ensures) (c .before .before .before .filled .given .0 .0) (c .before .before .before .filled .given .1)))
+slice-aggregate-put-turned c =
+    let f = c .before .before .before in
+    sym (length-take-le (f .filled .given .0 .0) (found f .list .last .1 .1 .1 .0) (within f))
 
 slice-aggregate-put-turned-2 : tie.Need-slice-aggregate-put-turned-2
 slice-aggregate-put-turned-2 c = search needs
 
 put-turned-requires : tie.Need-put-turned-requires
-put-turned-requires c κs = (omega (arith, length-take-le (c .before .before .before .before .before .filled .given .0 .0) (c .before .before .before .before .before .before .before .before .before .list .last .1 .1 .1 .0) (list-places (c .before .before .before .before .before .before .before .before .before .before .before .before .before .before .before .args .count) (c .before .before .before .before .before .before .before .before .before .before .before .before .before .before .before .args .hard .now) (c .before .before .before .before .before .before .before .before .before .before .before .before .before .before .before .args .soft .now) (places setsMost) (places scratchPlaces) (c .before .before .before .before .before .before .before .before .before .list .result) (c .before .before .before .before .before .before .before .before .before .list .last .1 .1 .1 .0) _ (c .before .before .before .before .before .before .before .before .before .list .ensures) (c .before .before .before .before .before .filled .given .0 .0) (c .before .before .before .before .before .filled .given .1)), list-places (c .before .before .before .before .before .before .before .before .before .before .before .before .before .before .before .args .count) (c .before .before .before .before .before .before .before .before .before .before .before .before .before .before .before .args .hard .now) (c .before .before .before .before .before .before .before .before .before .before .before .before .before .before .before .args .soft .now) (places setsMost) (places scratchPlaces) (c .before .before .before .before .before .before .before .before .before .list .result) (c .before .before .before .before .before .before .before .before .before .list .last .1 .1 .1 .0) _ (c .before .before .before .before .before .before .before .before .before .list .ensures) (c .before .before .before .before .before .filled .given .0 .0) (c .before .before .before .before .before .filled .given .1), c .before .before .before .before .before .before .before .before .before .list .kept .1 .1 .1 .0), c .before .before .before .before .before .before .before .before .before .before .before .before .before .before .before .pre)
+put-turned-requires c κs =
+    let f = c .before .before .before .before .before in
+    let l = found f in
+    (omega (arith, length-take-le (f .filled .given .0 .0) (l .list .last .1 .1 .1 .0) (within f), within f, l .list .kept .1 .1 .1 .0), start l .pre)
 
 same-length : tie.Need-same-length
 same-length c = search needs
 
 returns : tie.Need-returns
-returns c = (refusalLines (c .before .before .before .refusal-number .result), list-refused (c .before .before .before .before .before .before .before .before .before .before .before .before .before .before .before .before .args .count) (c .before .before .before .before .before .before .before .before .before .before .before .before .before .before .before .before .args .hard .now) (c .before .before .before .before .before .before .before .before .before .before .before .before .before .before .before .before .args .soft .now) (c .before .before .before .before .before .before .before .before .before .before .list .result) _ _ (c .before .before .before .before .before .before .before .before .before .before .list .ensures) (c .before .before .before .before .before .before .refusal .given .0 .0) (c .before .before .before .refusal-number .result) (c .before .before .before .before .before .before .refusal .given .1) (c .before .before .before .refusal-number .ensures), c .before .before .put-refusal .ensures)
+returns c =
+    let number = c .before .before .before in
+    let r = number .before .before .before in
+    let l = r .before .before .before .before in
+    let a = start l .args in (
+      refusalLines (number .refusal-number .result),
+      list-refused (a .count) (a .hard .now) (a .soft .now) (l .list .result) _ _ (l .list .ensures) (r .refusal .given .0 .0) (number .refusal-number .result) (r .refusal .given .1) (number .refusal-number .ensures),
+      c .before .before .put-refusal .ensures,
+    )
 
 same-length-2 : tie.Need-same-length-2
 same-length-2 c = search needs
 
 returns-2 : tie.Need-returns-2
-returns-2 c = (answerLines unmet [] (0 ∷ []), list-unmet (c .before .before .before .before .before .before .before .before .before .before .before .before .before .before .args .count) (c .before .before .before .before .before .before .before .before .before .before .before .before .before .before .args .hard .now) (c .before .before .before .before .before .before .before .before .before .before .before .before .before .before .args .soft .now) (c .before .before .before .before .before .before .before .before .list .result) _ _ (c .before .before .before .before .before .before .before .before .list .ensures) (c .before .before .before .before .enum-told .given .1), c .before .before .put-unmet .ensures)
+returns-2 c =
+    let told = c .before .before .before .before in
+    let l = told .before .before .before .before in
+    let a = start l .args in
+    (answerLines unmet [] (0 ∷ []), list-unmet (a .count) (a .hard .now) (a .soft .now) (l .list .result) _ _ (l .list .ensures) (told .enum-told .given .1), c .before .before .put-unmet .ensures)
 
 same-length-3 : tie.Need-same-length-3
 same-length-3 c = search needs
 
 returns-3 : tie.Need-returns-3
-returns-3 c = (c .before .before .before .put-turned .ensures .0, list-listed (c .before .before .before .before .before .before .before .before .before .before .before .before .before .before .before .before .before .before .before .args .count) (c .before .before .before .before .before .before .before .before .before .before .before .before .before .before .before .before .before .before .before .args .hard .now) (c .before .before .before .before .before .before .before .before .before .before .before .before .before .before .before .before .before .before .before .args .soft .now) (c .before .before .before .before .before .before .before .before .before .before .before .before .before .list .result) _ _ (c .before .before .before .before .before .before .before .before .before .before .before .before .before .list .ensures) (c .before .before .before .before .before .before .before .before .before .filled .given .0 .0) (c .before .before .before .before .before .before .before .before .before .filled .given .1) (c .before .before .before .before .before .before .before .settings-count .result) (c .before .before .before .before .before .before .before .settings-count .ensures) (c .before .before .before .put-turned .ensures .0) (c .before .before .before .put-turned .ensures .1), c .before .before .before .put-turned .ensures .2)
+returns-3 c =
+    let put = c .before .before .before in
+    let counted = put .before .before .before .before in
+    let f = counted .before .before in
+    let l = found f in
+    let a = start l .args in (
+      put .put-turned .ensures .0,
+      list-listed (a .count) (a .hard .now) (a .soft .now) (l .list .result) _ _ (l .list .ensures) (f .filled .given .0 .0) (f .filled .given .1) (counted .settings-count .result) (counted .settings-count .ensures) (put .put-turned .ensures .0) (put .put-turned .ensures .1),
+      put .put-turned .ensures .2,
+    )
 
 pub put-resolved-spec : {M : Type 1} → statement M
 put-resolved-spec =
