@@ -13,7 +13,7 @@ use Rattle.setups.specs.declared.Refusal.{Refusal}
 use Rattle.setups.specs.declared.Refusal.the-variants.{Spent}
 use Rattle.setups.specs.Limits.{variablesMost}
 use Rattle.setups.specs.Clauses.{LiteralOf}
-use Rattle.setups.specs.Settling.{opening}
+use Rattle.literals.specs.Slots.{opening}
 use Rattle.setups.specs.Search.{Found, Model, None}
 use Rattle.setups.specs.Searching.{visit, search}
 use Rattle.setups.specs.Meaning.{Means}
@@ -26,7 +26,7 @@ use Rattle.setups.proofs.Refusals.{refused-number}
 use Rattle.scans.specs.Scans.{ReadableAll}
 use Rattle.search.specs.declared.Outcome.{Outcome}
 use Rattle.search.specs.declared.Outcome.the-variants as outcome
-use Rattle.search.specs.declared.Answer.{Answer}
+use Rattle.search.specs.declared.Visited.{Visited}
 use Rattle.search.specs.Told.{told}
 use Rattle.ask.specs.declared.Asked.the-variants as asked
 use Rattle.ask.specs.Asking.{answered}
@@ -55,7 +55,7 @@ made n places outcome.Model used values = answered (asked.Model used) (written (
 made n places outcome.None used values = answered (asked.None used) places
 made n places outcome.Spent used values = answered (asked.Refused Spent) places
 
-abbrev madeOf : ℕ → List ℕ → Answer → AskResult
+abbrev madeOf : ℕ → List ℕ → Visited → AskResult
 madeOf n places a = made n places (a .outcome) (a .used) (a .values)
 
 told-made : (n budget k : ℕ) (cs : List (List ℕ)) (places : List ℕ) (r : Found) → Means n cs r
@@ -72,7 +72,7 @@ told-made n budget k cs places (None visits) means =
     let l : visits ≤ budget = omega arith in
     rw (zero-add visits, le-ltb budget visits l))
 
-module _ (n budget : ℕ) (cs : List (List ℕ)) (places : List ℕ) (a : Answer) (is : a ≡ told budget 0 (visit cs (opening n))) where
+module _ (n budget : ℕ) (cs : List (List ℕ)) (places : List ℕ) (a : Visited) (is : a ≡ told budget 0 (visit cs (opening n))) where
   search-made : madeOf n places a ≡ searchedResult budget places (search n cs)
   unfolding search
   search-made =

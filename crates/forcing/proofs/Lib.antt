@@ -4,5 +4,5 @@ mod SelectorLaws
 pub mod ValueLaws
 mod StandingLaws
 mod Tallies
-pub mod StepLaws
-mod Passes
+pub mod RuleLaws
+mod ForcingLaws

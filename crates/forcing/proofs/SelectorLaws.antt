@@ -16,7 +16,7 @@ use Rattle.setups.specs.Limits.{settingsMost}
 use Rattle.setups.specs.Clauses.{clauses}
 use Rattle.setups.specs.Setups.{settings}
 use Rattle.setups.proofs.CheckLaws.{settings-length, clauses-end, clauses-literal}
-use Rattle.forcing.specs.Selectors.{next, Adds}
+use Rattle.forcing.specs.Selectors.{nextSelector, Adds}
 
 -- a set has no setting from its width on
 pub beyond : (S n : ℕ) → S < 2 ^ settingsMost → settingsMost ≤ n → ¬ In n S
@@ -62,7 +62,7 @@ module _ (soft : List ℕ) (n i : ℕ) (at : Along soft n i) (l : i < length sof
   here : length (clauses (drop i soft)) ≡ length (clauses (getD soft i 0 ∷ drop (i + 1) soft))
   here = rw (front soft i l)
 
-  pub along-ends : getD soft i 0 ≡ 0 → (n′ : ℕ) → n′ ≡ next n → Along soft n′ (i + 1)
+  pub along-ends : getD soft i 0 ≡ 0 → (n′ : ℕ) → n′ ≡ nextSelector n → Along soft n′ (i + 1)
   along-ends z n′ e = record {
     upto = omega arith;
     sums = omega (arith, at .sums, here, clauses-end (getD soft i 0) z (drop (i + 1) soft));

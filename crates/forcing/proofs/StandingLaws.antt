@@ -7,8 +7,9 @@ use Prim.Native.Nat.{ℕ, _+_, _≤_, _<_, zero-le}
 use native.Mathlib.Omega.{arith}
 use borrow.Author.Tests.{lt-ltb, le-ltb, eq-eqb, ne-eqb}
 use lib.ListN.{length, getD, drop}
-use Rattle.setups.specs.Clauses.{clauses, wish}
-use Rattle.forcing.specs.Tests.{slot, isTrue, allPass}
+use Rattle.setups.specs.Clauses.{clauses, wish, allPass}
+use Rattle.literals.specs.Slots.{slot}
+use Rattle.forcing.specs.Holding.{isTrue}
 use Rattle.forcing.specs.Standings.{nothingRead, looked}
 use Rattle.forcing.specs.declared.standing.Chance.{Chance}
 use Rattle.forcing.proofs.Verdicts.{verdicts, allOf, verdict-all, verdicts-past, verdicts-end, verdicts-literal}

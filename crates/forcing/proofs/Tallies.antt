@@ -1,25 +1,25 @@
 -- The set of the settings that hold, counted along the soft buffer.
-use mathlib.Core.Path.{_≡_, sym, ap, _∙_, subst}
+use mathlib.Core.Path.{_≡_, ap}
 use mathlib.Core.Logic.{_⊎_, inl, inr, ⊎-elim, _↔_, _≢_, Iff·trans}
 use mathlib.Core.Bool.{Bool, false, _||_}
 use mathlib.Core.List.{List, _∷_}
 use Prim.Native.Nat.{ℕ, zero, suc, _+_, _≤_, _<_, zero-le}
 use native.Mathlib.Omega.{arith}
-use lib.Dec.{T, ltb, ltb→lt, lt→ltb}
+use lib.Dec.{T}
 use lib.ListN.{length, getD, drop}
 use Rattle.sets.specs.Sets.{In}
 use Rattle.sets.specs.Tests.{has}
-use Rattle.numbers.proofs.Deciding.{and-iff, T-equal}
+use Rattle.numbers.proofs.Deciding.{T-equal}
 use Rattle.sets.proofs.Digits.{none-in}
 use Rattle.sets.proofs.Tests.{has-in, in-has}
 use Rattle.setups.specs.Limits.{settingsMost}
 use Rattle.setups.specs.Clauses.{clauses}
-use Rattle.setups.specs.Setups.{settings}
-use Rattle.forcing.specs.Tests.{slot, isTrue, mayBe, passesAt, holds}
-use Rattle.forcing.specs.Selectors.{next, Adds}
+use Rattle.literals.specs.Slots.{slot}
+use Rattle.forcing.specs.Holding.{isTrue, mayBe, holds}
+use Rattle.forcing.specs.Selectors.{nextSelector, Adds}
 use Rattle.forcing.specs.Standings.{nothingRead, looked, Stands}
 use Rattle.forcing.specs.declared.standing.Chance.{Chance}
-use Rattle.forcing.proofs.Verdicts.{verdicts, verdict-setting, verdicts-past, verdicts-end, verdicts-literal}
+use Rattle.forcing.proofs.Verdicts.{verdicts, verdict-holds, verdicts-past, verdicts-end, verdicts-literal}
 
 -- the setting at place j is one of those whose verdicts these are, the first of them at selector n
 abbrev Later : List Bool → ℕ → ℕ → Type 0
@@ -33,39 +33,30 @@ pub record Tallying (test : ℕ → Bool) (soft : List ℕ) (set : ℕ) (sofar :
 pub tallying-starts : (test : ℕ → Bool) (soft : List ℕ) (sofar : Bool) (n : ℕ) → sofar ≡ false → n ≡ 0 → Tallying test soft 0 sofar n 0
 tallying-starts test soft sofar n e z = rw (e, z) (record {
   upto = zero-le;
-  counts = λ j. Iff·trans (and-iff (ltb j settingsMost) (passesAt test (settings soft) j)) (to j, from j);
+  counts = λ j. Iff·trans (verdict-holds test soft j) (
+    (λ h. inr (j, omega arith, h .0, h .1)),
+    ⊎-elim (λ h. absurd (none-in j h)) (λ h. (h .2, rw (let e : j ≡ h .0 = omega (arith, h .1) in e) (h .3))),
+  );
 })
-  where
-    to : (j : ℕ) → T (ltb j settingsMost) × T (passesAt test (settings soft) j) → In j 0 ⊎ Later (verdicts test false (clauses soft)) 0 j
-    to j h = inr (j, omega arith, ltb→lt j settingsMost (h .0), subst T (verdict-setting test soft j) (h .1))
-
-    from : (j : ℕ) → In j 0 ⊎ Later (verdicts test false (clauses soft)) 0 j
-        → T (ltb j settingsMost) × T (passesAt test (settings soft) j)
-    from j (inl h) = absurd (none-in j h)
-    from j (inr h) =
-        let e : h .0 ≡ j = omega (arith, h .1) in (
-          lt→ltb j settingsMost (h .2),
-          subst T (ap (λ (k : ℕ). getD (verdicts test false (clauses soft)) k false) e ∙ sym (verdict-setting test soft j)) (h .3),
-        )
 
 -- the settings counted and those to come, past the end of one
 past-end : (set set′ n j : ℕ) (sofar : Bool) (rest : List Bool) → Adds set sofar n set′
-    → (In j set ⊎ Later (sofar ∷ rest) n j) ↔ (In j set′ ⊎ Later rest (next n) j)
+    → (In j set ⊎ Later (sofar ∷ rest) n j) ↔ (In j set′ ⊎ Later rest (nextSelector n) j)
 past-end set set′ n j sofar rest adds = (
   ⊎-elim (λ h. inl (adds j .1 (inl h))) to,
   ⊎-elim (λ h. ⊎-elim inl (λ q. inr (0, omega arith, q .2, q .0)) (adds j .0 h)) from,
 )
   where
-    to : Later (sofar ∷ rest) n j → In j set′ ⊎ Later rest (next n) j
+    to : Later (sofar ∷ rest) n j → In j set′ ⊎ Later rest (nextSelector n) j
     to (zero, e, l, t) = inl (adds j .1 (inr (t, omega arith, l)))
     to (suc k, e, l, t) = inr (k, omega arith, l, t)
 
-    from : Later rest (next n) j → In j set ⊎ Later (sofar ∷ rest) n j
+    from : Later rest (nextSelector n) j → In j set ⊎ Later (sofar ∷ rest) n j
     from h = inr (suc (h .0), omega (arith, h .1, h .2), h .2, h .3)
 
 module _ (test : ℕ → Bool) (soft : List ℕ) (set : ℕ) (sofar : Bool) (n i : ℕ) (at : Tallying test soft set sofar n i) where
   -- the setting at hand ends
-  pub tallying-ends : i < length soft → getD soft i 0 ≡ 0 → (set′ n′ : ℕ) (next-sofar : Bool) → Adds set sofar n set′ → n′ ≡ next n
+  pub tallying-ends : i < length soft → getD soft i 0 ≡ 0 → (set′ n′ : ℕ) (next-sofar : Bool) → Adds set sofar n set′ → n′ ≡ nextSelector n
       → next-sofar ≡ false
       → Tallying test soft set′ next-sofar n′ (i + 1)
   tallying-ends l z set′ n′ next-sofar adds e f =
@@ -105,7 +96,7 @@ standing-starts values soft chance n e z = record {
 
 module _ (values soft : List ℕ) (sure possible : ℕ) (chance : Chance) (n i : ℕ) (at : Counting values soft sure possible chance n i) where
   pub standing-ends : i < length soft → getD soft i 0 ≡ 0 → (sure′ possible′ n′ : ℕ) (chance′ : Chance)
-      → Adds sure (chance .sure) n sure′ → Adds possible (chance .possible) n possible′ → n′ ≡ next n → chance′ ≡ nothingRead
+      → Adds sure (chance .sure) n sure′ → Adds possible (chance .possible) n possible′ → n′ ≡ nextSelector n → chance′ ≡ nothingRead
       → Counting values soft sure′ possible′ chance′ n′ (i + 1)
   standing-ends l z sure′ possible′ n′ chance′ a b e f = record {
     trues = tallying-ends (isTrue values) soft sure (chance .sure) n i (at .trues) l z sure′ n′ (chance′ .sure) a e

@@ -1,9 +1,9 @@
 -- Values by place: what a value that is set does to the free ones and to who agrees; the first and the last values of a search.
 use mathlib.Core.Path.{_≡_, refl, sym, _∙_, subst}
-use mathlib.Core.Logic.{_≢_, by-cases, ⊎-elim}
+use mathlib.Core.Logic.{_≢_, by-cases}
 use mathlib.Core.List.{List, [], _∷_, _++_}
 use Prim.Native.Nat.{ℕ, zero, suc, _+_, _-_, _≤_, _<_, zero-le, suc-le-suc}
-use native.Mathlib.Nat.{not-suc-le-zero, zero-lt-suc}
+use native.Mathlib.Nat.{not-suc-le-zero}
 use native.Mathlib.Decide.{ℕ-discrete}
 use native.Mathlib.Omega.{arith}
 use borrow.Author.Tests.{le-ltb}
@@ -11,11 +11,11 @@ use lib.ListN.{length, getD, set, replicate, length-set}
 use lib.Seq.{getD-set-same, getD-set-other}
 use Rattle.numbers.proofs.Places.{zeros-at}
 use Rattle.setups.specs.Limits.{variablesMost}
-use Rattle.setups.specs.Settling.{opening}
-use Rattle.setups.specs.Searching.{freeCount, lowestFree}
-use Rattle.setups.proofs.Scanning.{free-set, lowest-cases}
-use Rattle.forcing.specs.Tests.{slot}
-use Rattle.forcing.specs.Values.{Decided, Agrees, Completes}
+use Rattle.literals.specs.Slots.{opening}
+use Rattle.setups.specs.Searching.{freeCount}
+use Rattle.setups.proofs.Scanning.{free-set}
+use Rattle.literals.proofs.SlotLaws.{all-set}
+use Rattle.forcing.specs.Values.{AgreesWith, Completes}
 
 -- ---- one value set
 
@@ -31,19 +31,13 @@ pub free-set-lt : (values : List ℕ) (p x : ℕ) → 1 < getD values p 0 → x 
 free-set-lt values p x h l = omega (arith, free-set values p x h (suc-le-suc l))
 
 -- who agrees, and has the value there, agrees still
-pub agrees-set : (values m : List ℕ) (p x : ℕ) → Agrees values m → getD m p 0 ≡ x → Agrees (set values p x) m
+pub agrees-set : (values m : List ℕ) (p x : ℕ) → AgreesWith values m → getD m p 0 ≡ x → AgreesWith (set values p x) m
 agrees-set [] m p x a e i h = a i h
 agrees-set (y ∷ values) m zero x a e zero h = e
 agrees-set (y ∷ values) m zero x a e (suc i) h = a (suc i) h
 agrees-set (y ∷ values) m (suc p) x a e zero h = a zero h
 agrees-set (y ∷ values) [] (suc p) x a e (suc i) h = agrees-set values [] p x (λ j. a (suc j)) e i h
 agrees-set (y ∷ values) (z ∷ m) (suc p) x a e (suc i) h = agrees-set values m p x (λ j. a (suc j)) e i h
-
--- no value is free where none of those that there are is
-pub all-decided : (values : List ℕ) → ((i : ℕ) → i < length values → getD values i 0 < 2) → Decided values
-all-decided [] h i = zero-lt-suc 1
-all-decided (x ∷ values) h zero = h 0 (zero-lt-suc (length values))
-all-decided (x ∷ values) h (suc i) = all-decided values (λ j l. h (suc j) (suc-le-suc l)) i
 
 -- ---- the values that a search starts from
 
@@ -63,15 +57,15 @@ opens n values e = rw e (opens-on n (variablesMost - n))
 
 -- below place i none is free, and what is not free stays
 pub record Completing (values model : List ℕ) (i : ℕ) : Type 0 where
-  pub upto : i ≤ 64
-  pub size : length model ≡ 64
+  pub upto : i ≤ variablesMost
+  pub size : length model ≡ variablesMost
   pub done : (j : ℕ) → j < i → getD model j 0 < 2
-  pub agrees : Agrees values model
+  pub agrees : AgreesWith values model
 
-pub completing-starts : (values : List ℕ) → length values ≡ 64 → Completing values values 0
+pub completing-starts : (values : List ℕ) → length values ≡ variablesMost → Completing values values 0
 completing-starts values n = record { upto = zero-le; size = n; done = λ j l. absurd (not-suc-le-zero l); agrees = λ j h. refl }
 
-module _ (values model : List ℕ) (i : ℕ) (at : Completing values model i) (l : i < 64) where
+module _ (values model : List ℕ) (i : ℕ) (at : Completing values model i) (l : i < variablesMost) where
   -- the value at i is 0 or 1
   pub completing-skips : getD model i 0 < 2 → Completing values model (i + 1)
   completing-skips h = record {
@@ -94,21 +88,9 @@ module _ (values model : List ℕ) (i : ℕ) (at : Completing values model i) (l
         getD-set-other model i j 0 0 other ∙ same;
   }
 
-pub completing-done : (values model : List ℕ) (i : ℕ) → Completing values model i → 64 ≤ i → Completes values model
+pub completing-done : (values model : List ℕ) (i : ℕ) → Completing values model i → variablesMost ≤ i → Completes values model
 completing-done values model i at l = record {
   size = at .size;
-  decided = all-decided model (λ j k. at .done j (omega (arith, at .size)));
+  full = all-set model (λ j k. at .done j (omega (arith, at .size)));
   agrees = at .agrees;
 }
-
--- ---- the lowest free variable
-
-module _ (values : List ℕ) (n : length values ≡ 64) (v : ℕ) (e : v ≡ lowestFree values + 1) where
-  -- its negation is a literal to choose
-  pub lowest-chosen : v ≤ 64 → 1 < getD values (slot (128 + v)) 0
-  lowest-chosen l =
-      let s : slot (128 + v) ≡ lowestFree values = omega arith in
-      rw s (⊎-elim (λ h. h .free) (λ h. absurd (let b : ⊥ = omega (arith, h .1) in b)) (lowest-cases values))
-
-  pub none-free : 64 < v → Decided values
-  none-free l = ⊎-elim (λ h. absurd (let b : ⊥ = omega (arith, h .inside) in b)) (λ h. h .0) (lowest-cases values)

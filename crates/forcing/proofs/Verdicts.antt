@@ -1,16 +1,19 @@
 -- A pass over a clause buffer: what a test of literals makes of its clauses, a byte at a time.
-use mathlib.Core.Path.{_≡_, refl, sym, ap}
-use mathlib.Core.Logic.{_≢_}
+use mathlib.Core.Path.{_≡_, refl, sym, ap, subst}
+use mathlib.Core.Logic.{_≢_, _↔_}
 use mathlib.Core.Bool.{Bool, true, false, _&&_, _||_, or-assoc, or-false, and-true}
 use mathlib.Core.List.{List, [], _∷_}
-use Prim.Native.Nat.{ℕ, zero, suc, _+_, _≤_, _<_}
-use native.Mathlib.Nat.{not-suc-le-zero}
-use lib.Dec.{T}
+use Prim.Native.Nat.{ℕ, zero, suc, _+_, _≤_, _<_, min, suc-le-suc}
+use native.Mathlib.Nat.{not-suc-le-zero, le-of-suc-le-suc, zero-lt-suc}
+use native.Mathlib.Omega.{arith}
+use lib.Dec.{T, ltb, ltb→lt, lt→ltb}
 use lib.ListN.{length, getD, drop, drop-of-length-le}
 use Rattle.numbers.proofs.Places.{front}
-use Rattle.setups.specs.Clauses.{push, clauses}
+use Rattle.numbers.proofs.Deciding.{and-left, and-right, and-both}
+use Rattle.setups.specs.Limits.{settingsMost}
+use Rattle.setups.specs.Clauses.{push, clauses, passes, allPass}
 use Rattle.setups.specs.Setups.{apiece, settings}
-use Rattle.forcing.specs.Tests.{passes, allPass, passesAt}
+use Rattle.forcing.specs.Holding.{holds}
 
 -- whether each clause passes, where `sofar` tells whether a literal of the first that is read already does
 abbrev pub verdicts : (ℕ → Bool) → Bool → List (List ℕ) → List Bool
@@ -26,14 +29,31 @@ verdict-clause test (c ∷ cs) zero = refl
 verdict-clause test (c ∷ cs) (suc i) = verdict-clause test cs i
 
 -- the setting at place i
-pub verdict-setting : (test : ℕ → Bool) (soft : List ℕ) (i : ℕ)
-    → passesAt test (settings soft) i ≡ getD (verdicts test false (clauses soft)) i false
-verdict-setting test soft i = go (clauses soft) i
-  where
-    go : (cs : List (List ℕ)) (i : ℕ) → passesAt test (apiece cs) i ≡ getD (verdicts test false cs) i false
-    go [] i = refl
-    go (c ∷ cs) zero = and-true (passes test c)
-    go (c ∷ cs) (suc i) = go cs i
+verdict-setting : (test : ℕ → Bool) (cs : List (List ℕ)) (i : ℕ)
+    → ((i < length (apiece cs)) × T (allPass test (getD (apiece cs) i []))) ↔ T (getD (verdicts test false cs) i false)
+verdict-setting test [] i = ((λ h. not-suc-le-zero (h .0)), λ t. absurd t)
+verdict-setting test (c ∷ cs) zero = (
+  (λ h. subst T (and-true (passes test c)) (h .1)),
+  λ t. (zero-lt-suc (length (apiece cs)), subst T (sym (and-true (passes test c))) t),
+)
+verdict-setting test (c ∷ cs) (suc i) =
+    let rest = verdict-setting test cs i in
+    ((λ h. rest .0 (le-of-suc-le-suc (h .0), h .1)), λ t. let h = rest .1 t in (suc-le-suc (h .0), h .1))
+
+pub verdict-holds : (test : ℕ → Bool) (soft : List ℕ) (i : ℕ)
+    → T (holds test soft i) ↔ ((i < settingsMost) × T (getD (verdicts test false (clauses soft)) i false))
+verdict-holds test soft i =
+    let most = min (length (settings soft)) settingsMost in
+    let named = ltb i most in
+    let passing = allPass test (getD (settings soft) i []) in
+    let verdict = verdict-setting test (clauses soft) i in (
+      (λ t.
+          let l = ltb→lt i most (and-left named passing t) in
+          (omega arith, verdict .0 (omega arith, and-right named passing t))),
+      λ h.
+          let there = verdict .1 (h .1) in
+          and-both named passing (lt→ltb i most (omega (arith, h .0, there .0))) (there .1),
+    )
 
 -- there are as many as clauses
 pub verdicts-length : (test : ℕ → Bool) (sofar : Bool) (cs : List (List ℕ)) → length (verdicts test sofar cs) ≡ length cs

@@ -6,7 +6,7 @@ use Prim.Native.Nat.{ℕ}
 use lib.Dec.{eqb, ltb}
 use Rattle.sets.specs.Tests.{has}
 use Rattle.setups.specs.Clauses.{wish}
-use Rattle.forcing.specs.Tests.{isTrue, mayBe, holds}
+use Rattle.forcing.specs.Holding.{isTrue, mayBe, holds}
 use Rattle.forcing.specs.declared.standing.Chance.{Chance}
 use Rattle.forcing.specs.declared.standing.Standing.{Standing}
 

@@ -4,12 +4,12 @@ mod selectors;
 mod standing;
 mod values;
 
-pub use forcing::Forced;
+pub use forcing::Progress;
 pub use forcing::force_both;
 pub use forcing::give_up;
-pub use selectors::FIRST;
+pub use selectors::FIRST_SELECTOR;
 pub use selectors::Owed;
-pub use selectors::after;
+pub use selectors::next_selector;
 pub use selectors::owes;
 pub use standing::Standing;
 pub use standing::met;

@@ -9,20 +9,20 @@ ghost use mathlib.Core.Path.{_≡_};
 ghost use mathlib.Core.Bool.{true};
 ghost use mathlib.Core.Logic.{_↔_};
 ghost use Rattle.sets.specs.Sets.{In};
-ghost use Rattle.forcing.specs.Selectors.{next, Owes, Adds};
+ghost use Rattle.forcing.specs.Selectors.{nextSelector, Owes, Adds};
 
 // Which clauses of a buffer have to be true: every one, or those of the settings of a set.
 pub enum Owed {
-    Every,
-    Only(Set),
+    EveryClause,
+    OfSettings(Set),
 }
 
 // The first setting's selector.
-pub const FIRST: Selector = Selector(0);
+pub const FIRST_SELECTOR: Selector = Selector(0);
 
 // The selector after this one; beyond the last that a set has, it stays.
-pub fn after(selector: Selector) -> Selector
-    ensures { λ r. ⌜ r .0 ≡ next (selector .0) ⌝ }
+pub fn next_selector(selector: Selector) -> Selector
+    ensures { λ r. ⌜ r .0 ≡ nextSelector (selector .0) ⌝ }
 {
     if selector.0 < SETTINGS_MOST {
         return Selector(selector.0 + 1);
@@ -31,7 +31,7 @@ pub fn after(selector: Selector) -> Selector
 }
 
 // The set has the selector's setting.
-pub fn chosen(set: Set, selector: Selector) -> bool
+pub fn has_selector(set: Set, selector: Selector) -> bool
     ensures { λ r. ⌜ (r ≡ true) ↔ In (selector .0) set ⌝ }
 {
     if SETTINGS_MOST <= selector.0 {
@@ -58,7 +58,7 @@ pub fn owes(owed: Owed, selector: Selector) -> bool
     ensures { λ r. ⌜ (r ≡ true) ↔ Owes owed (selector .0) ⌝ }
 {
     match owed {
-        Owed::Every => true,
-        Owed::Only(set) => chosen(set, selector),
+        Owed::EveryClause => true,
+        Owed::OfSettings(set) => has_selector(set, selector),
     }
 }

@@ -1,16 +1,16 @@
 // How clauses and settings stand under values of which some are free.
-use crate::selectors::FIRST;
+use crate::selectors::FIRST_SELECTOR;
 use crate::selectors::added;
-use crate::selectors::after;
+use crate::selectors::next_selector;
 use literals::FREE;
 use literals::Values;
-use literals::place;
+use literals::slot;
 use literals::wish;
 use sets::EMPTY;
 use sets::Set;
 ghost use mathlib.Core.Path.{_≡_};
-ghost use Rattle.setups.specs.Clauses.{clauses};
-ghost use Rattle.forcing.specs.Tests.{isTrue, allPass};
+ghost use Rattle.setups.specs.Clauses.{clauses, allPass};
+ghost use Rattle.forcing.specs.Holding.{isTrue};
 ghost use Rattle.forcing.specs.Standings.{looked, Stands};
 
 // The settings that are true already, and those that are true or may still become so.
@@ -64,7 +64,7 @@ pub fn met(values: Values, hard: &[u8]) -> bool
             }
             chance = UNREAD;
         } else {
-            let at = place(byte);
+            let at = slot(byte);
             chance = look(chance, byte, values[at]);
         }
         i += 1;
@@ -79,7 +79,7 @@ pub fn stand(values: Values, soft: &[u8]) -> Standing
     let mut sure = EMPTY;
     let mut possible = EMPTY;
     let mut chance = UNREAD;
-    let mut selector = FIRST;
+    let mut selector = FIRST_SELECTOR;
     let mut i = 0;
     while i < soft.len() {
         let byte = soft[i];
@@ -87,9 +87,9 @@ pub fn stand(values: Values, soft: &[u8]) -> Standing
             sure = added(sure, chance.sure, selector);
             possible = added(possible, chance.possible, selector);
             chance = UNREAD;
-            selector = after(selector);
+            selector = next_selector(selector);
         } else {
-            let at = place(byte);
+            let at = slot(byte);
             chance = look(chance, byte, values[at]);
         }
         i += 1;

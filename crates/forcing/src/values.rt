@@ -1,14 +1,14 @@
 // Values of variables, by place: what is set, and what becomes of the free ones.
 use literals::FREE;
 use literals::Values;
-use literals::place;
+use literals::slot;
 use literals::wish;
 use numbers::VARIABLES_MOST;
 ghost use mathlib.Core.Path.{_≡_};
 ghost use Prim.Native.Nat.{_-_};
 ghost use lib.ListN.{set};
 ghost use Rattle.setups.specs.Clauses;
-ghost use Rattle.forcing.specs.Tests.{slot};
+ghost use Rattle.literals.specs.Slots.{slot};
 ghost use Rattle.forcing.specs.Values.{Completes};
 
 // Free values become 0.
@@ -31,7 +31,7 @@ pub fn with_true(values: Values, literal: u8) -> Values
     ensures { λ r. ⌜ r ≡ set values (slot literal) (Clauses.wish literal) ⌝ }
 {
     let mut changed = values;
-    let at = place(literal);
+    let at = slot(literal);
     changed[at] = wish(literal);
     changed
 }
@@ -41,7 +41,7 @@ pub fn with_false(values: Values, literal: u8) -> Values
     ensures { λ r. ⌜ r ≡ set values (slot literal) (1 - Clauses.wish literal) ⌝ }
 {
     let mut changed = values;
-    let at = place(literal);
+    let at = slot(literal);
     changed[at] = 1 - wish(literal);
     changed
 }

@@ -16,7 +16,7 @@ use Rattle.sets.specs.Tests.{has}
 use Rattle.sets.proofs.Digits.{none-in, and-in, or-joins}
 use Rattle.sets.proofs.Lists.{place-listed, listed-place}
 use Rattle.sets.proofs.Tests.{has-in, in-has}
-use Rattle.found.specs.Founds.{Each, One, Fit, KeepsLast, Narrows}
+use Rattle.found.specs.FoundSets.{Each, One, Fit, KeepsLast, Narrows}
 
 -- ---- the last setting of a set
 

@@ -1,2 +1,2 @@
 -- What found sets ask of the settings, and what the functions over them promise.
-pub mod Founds
+pub mod FoundSets

@@ -8,7 +8,7 @@ ghost use mathlib.Core.Path.{_≡_};
 ghost use mathlib.Core.Bool.{true};
 ghost use mathlib.Core.Logic.{_↔_};
 ghost use Rattle.sets.specs.Tests.{has};
-ghost use Rattle.found.specs.Founds.{Fit, KeepsLast, Narrows};
+ghost use Rattle.found.specs.FoundSets.{Fit, KeepsLast, Narrows};
 
 // The kept settings, with those that the found sets leave no choice about; or some found set has none left.
 pub struct Narrowed {

@@ -10,7 +10,7 @@ use Rattle.setups.specs.declared.Refusal.the-variants.{TooMany}
 use Rattle.setups.specs.Setups.{Setup, count, Together}
 use Rattle.setups.specs.List.{zeroed, givenOut}
 use Rattle.setups.proofs.Duality.{unmet-ways-out}
-use Rattle.walk.specs.Walking.{Between, over, Walked}
+use Rattle.walk.specs.Walking.{WayOutBetween, over, Walked}
 use Rattle.walk.proofs.Overwriting.{over-take}
 use Rattle.walk.proofs.Root.{below-all, root-unmet}
 use Rattle.list.specs.declared.Listing.the-variants.{Listed, Unmet, Refused}
@@ -18,7 +18,7 @@ use Rattle.list.specs.Listing.{answered}
 use Rattle.list.specs.Giving.{GivesWays}
 
 -- an empty branch at the root: Unmet, and no place is written
-pub root-dead : (g : Setup) (settings : ℕ) (e : settings ≡ count g) (list found : List ℕ) → ¬ Between g 0 (0 + 2 ^ settings) → GivesWays g list found Unmet list found
+pub root-dead : (g : Setup) (settings : ℕ) (e : settings ≡ count g) (list found : List ℕ) → ¬ WayOutBetween g 0 (0 + 2 ^ settings) → GivesWays g list found Unmet list found
 root-dead g settings e list found dead = record {
   ways = [];
   exact = unmet-ways-out g (root-unmet g settings e dead);

@@ -8,7 +8,7 @@ use sets::EMPTY;
 use sets::Set;
 use setups::Judged;
 use setups::Refusal;
-use walk::Branch;
+use walk::Entered;
 use walk::Node;
 use walk::enter;
 use walk::walk;
@@ -47,7 +47,7 @@ fn give_out(
         kept: EMPTY,
         witness: EMPTY,
     };
-    let Branch::Live(live) = enter(count, hard, soft, root, &found[..0]) else {
+    let Entered::Live(live) = enter(count, hard, soft, root, &found[..0]) else {
         return Listing::Unmet;
     };
     let filled = walk(count, hard, soft, live, found, 0);

@@ -1,2 +1,2 @@
--- the values that a search begins with, and the lowest free one
-mod ValueLaws
+-- the values that a search begins with, a literal's place among them, and the lowest free one
+pub mod SlotLaws

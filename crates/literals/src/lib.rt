@@ -7,11 +7,11 @@ use numbers::value_place;
 use numbers::variable_of;
 use setups::Seen;
 ghost use mathlib.Core.Path.{_≡_};
-ghost use Prim.Native.Nat.{_+_, _%_, _≤_};
+ghost use Prim.Native.Nat.{_≤_};
 ghost use Rattle.setups.specs.Limits.{variablesMost};
 ghost use Rattle.setups.specs.Clauses;
-ghost use Rattle.setups.specs.Settling;
-ghost use Rattle.setups.specs.Searching.{lowestFree, seeValue};
+ghost use Rattle.setups.specs.Searching.{seeValue};
+ghost use Rattle.literals.specs.Slots;
 
 // A place for each variable there can be: its value is 0 or 1, or FREE while it has none.
 pub type Values = [u8; VARIABLES_MOST];
@@ -19,10 +19,16 @@ pub type Values = [u8; VARIABLES_MOST];
 // The value of a free variable.
 pub const FREE: u8 = 2;
 
+// Which variable is the lowest that is free.
+pub enum FirstFree {
+    At(Variable),
+    NoneFree,
+}
+
 // Each of `count` variables is free; a place that no variable has holds 0.
 pub fn opening(count: u32) -> Values
     requires { ⌜ count ≤ variablesMost ⌝ }
-    ensures { λ r. ⌜ r ≡ Settling.opening count ⌝ }
+    ensures { λ r. ⌜ r ≡ Slots.opening count ⌝ }
 {
     let mut values = [0u8; VARIABLES_MOST];
     let mut i = 0;
@@ -33,24 +39,24 @@ pub fn opening(count: u32) -> Values
     values
 }
 
-// The lowest free variable; the number after the last variable's where none is free.
-pub fn lowest_free(values: Values) -> Variable
-    ensures { λ r. ⌜ r .0 ≡ lowestFree values + 1 ⌝ }
+// The lowest free variable, or that none is free.
+pub fn lowest_free(values: Values) -> FirstFree
+    ensures { λ r. ⌜ Slots.TellsFree values r ⌝ }
 {
     let mut variable = Variable(1);
     while variable.0 as usize <= VARIABLES_MOST {
         let at = value_place(variable);
         if FREE <= values[at] {
-            return variable;
+            return FirstFree::At(variable);
         }
         variable = Variable(variable.0 + 1);
     }
-    variable
+    FirstFree::NoneFree
 }
 
-// Where the value of the literal's variable stands among 64; setups/proofs/LiteralLaws.antt has it as the definitions' place.
-pub fn place(literal: u8) -> usize
-    ensures { λ r. ⌜ r ≡ (literal % 128 + 63) % 64 ⌝ }
+// Where the value of the literal's variable stands.
+pub fn slot(literal: u8) -> usize
+    ensures { λ r. ⌜ r ≡ Slots.slot literal ⌝ }
 {
     value_place(variable_of(literal))
 }

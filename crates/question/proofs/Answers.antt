@@ -17,19 +17,19 @@ use Rattle.setups.specs.Limits.{settingsMost}
 use Rattle.setups.specs.Clauses.{Assigns}
 use Rattle.setups.specs.Setups.{Setup, count, SettingTrue}
 use Rattle.setups.specs.Taken.{Taken}
-use Rattle.setups.specs.Settling.{opening}
+use Rattle.literals.specs.Slots.{opening}
 use Rattle.setups.proofs.Models.{assigns-full}
-use Rattle.forcing.specs.Tests.{isTrue, holds, Broken}
-use Rattle.forcing.specs.Values.{Agrees, Completes}
-use Rattle.forcing.specs.Steps.{Step, unmoved}
+use Rattle.forcing.specs.Holding.{isTrue, holds, AllBroken}
+use Rattle.forcing.specs.Values.{AgreesWith, Completes}
+use Rattle.forcing.specs.Rules.{KeepsAnswers, unmoved}
 use Rattle.forcing.specs.Standings.{Stands}
-use Rattle.forcing.specs.declared.forcing.Forced.{Forced}
+use Rattle.forcing.specs.declared.forcing.Progress.{Progress}
 use Rattle.forcing.specs.declared.standing.Standing.{Standing}
 use Rattle.forcing.proofs.ValueLaws.{opens}
-use Rattle.question.specs.Asking.{Meets, Breaks, Says}
-use Rattle.question.specs.Searches.{Asked, Told}
+use Rattle.question.specs.Question.{Meets, Breaks, Says}
+use Rattle.question.specs.Seeking.{Fulfils, Seeks}
 use Rattle.question.specs.declared.Reply.the-variants.{Yes, No}
-use Rattle.question.specs.declared.searching.Sought.{Sought}
+use Rattle.question.specs.declared.seeking.Sought.{Sought}
 use Rattle.question.proofs.Bridge.{rules-true, holds-true}
 
 module _ (g : Setup) (taken : Taken g) (all : ℕ) (every : all ≡ 2 ^ min (count g) settingsMost - 1) where
@@ -59,7 +59,7 @@ module _ (g : Setup) (taken : Taken g) (all : ℕ) (every : all ≡ 2 ^ min (cou
       truly : (i : ℕ) → T (holds (isTrue m) (g .soft) i) ↔ ((i < count g) × SettingTrue g m i)
       truly = holds-true g taken m m (λ i l. refl)
 
-      asked : Asked (bitAnd kept all) (g .hard) (g .soft) found (isTrue m)
+      asked : Fulfils (bitAnd kept all) (g .hard) (g .soft) found (isTrue m)
       asked = record {
         rules = subst T (sym (rules-true g taken m m (λ i l. refl))) (meets .models .hard);
         fit = record {
@@ -68,17 +68,17 @@ module _ (g : Setup) (taken : Taken g) (all : ℕ) (every : all ≡ 2 ^ min (cou
         };
       }
 
-      agrees : (start : List ℕ) → start ≡ opening (g .variables) → Agrees start m
+      agrees : (start : List ℕ) → start ≡ opening (g .variables) → AgreesWith start m
       agrees start is i h =
           let o = opens (g .variables) start is i h in
           List·getD-eq-default m 0 {n = i} (omega (arith, o .0, meets .models .assigns .size)) ∙ sym (o .1)
 
-      broken : Breaks g given m → Broken (bitAnd given all) (isTrue m) (g .soft)
+      broken : Breaks g given m → AllBroken (bitAnd given all) (isTrue m) (g .soft)
       broken breaks i h t = let k = there given i .0 h in breaks i (k .1) (k .0) (truly i .0 t .1)
 
-    module _ (start : List ℕ) (is : start ≡ opening (g .variables)) (forced : Forced)
-        (step : Step (λ m. Broken (bitAnd given all) (isTrue m) (g .soft)) (unmoved start) forced) where
-      reaches : (m : List ℕ) (meets : Meets g kept found m) → Breaks g given m → (forced .fails ≡ false) × Agrees (forced .values) m
+    module _ (start : List ℕ) (is : start ≡ opening (g .variables)) (forced : Progress)
+        (step : KeepsAnswers (λ m. AllBroken (bitAnd given all) (isTrue m) (g .soft)) (unmoved start) forced) where
+      reaches : (m : List ℕ) (meets : Meets g kept found m) → Breaks g given m → (forced .fails ≡ false) × AgreesWith (forced .values) m
       reaches m meets breaks = step .stays m (assigns-full (meets .models .assigns)) (broken m meets breaks) (agrees m meets start is)
 
       -- the given-up settings cannot be broken
@@ -86,7 +86,7 @@ module _ (g : Setup) (taken : Taken g) (all : ℕ) (every : all ≡ 2 ^ min (cou
       no-start fails m meets breaks = true≢false (sym fails ∙ reaches m meets breaks .0)
 
       -- the search fails
-      pub no-model : (sought : Sought) → Told (λ m. Asked (bitAnd kept all) (g .hard) (g .soft) found (isTrue m)) (forced .values) sought
+      pub no-model : (sought : Sought) → Seeks (λ m. Fulfils (bitAnd kept all) (g .hard) (g .soft) found (isTrue m)) (forced .values) sought
           → sought .fails ≡ true → Says g kept given found No
       no-model sought told fails m meets breaks =
           told .fails fails m (assigns-full (meets .models .assigns)) (reaches m meets breaks .1) (asked m meets)
@@ -103,15 +103,15 @@ module _ (g : Setup) (taken : Taken g) (all : ℕ) (every : all ≡ 2 ^ min (cou
         size =
             let e : min (g .variables) (length w) ≡ g .variables = omega (arith, completes .size, taken .variables) in
             length-take (g .variables) w ∙ e;
-        bits = λ i l. omega (arith, same i l, completes .decided i);
+        bits = λ i l. omega (arith, same i l, completes .full i);
       }
 
       truth : (i : ℕ) → T (holds (isTrue w) (g .soft) i) ↔ ((i < count g) × SettingTrue g (take (g .variables) w) i)
       truth = holds-true g taken (take (g .variables) w) w same
 
-      module _ (start : List ℕ) (told : Told (λ m. Asked (bitAnd kept all) (g .hard) (g .soft) found (isTrue m)) start sought)
+      module _ (start : List ℕ) (told : Seeks (λ m. Fulfils (bitAnd kept all) (g .hard) (g .soft) found (isTrue m)) start sought)
           (finds : sought .fails ≡ false) where
-        answer : Asked (bitAnd kept all) (g .hard) (g .soft) found (isTrue w)
+        answer : Fulfils (bitAnd kept all) (g .hard) (g .soft) found (isTrue w)
         answer = told .finds finds w (completes .agrees)
 
         meets : Meets g kept found (take (g .variables) w)

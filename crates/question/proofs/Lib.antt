@@ -1,6 +1,6 @@
 -- The laws behind the question's functions.
 mod TestLaws
 mod Rounds
-mod Seeking
+mod SeekLaws
 mod Bridge
 mod Answers

@@ -3,7 +3,7 @@ use mathlib.Core.Path.{sym, _∙_, subst}
 use mathlib.Core.Logic.{⊎-elim, by-cases}
 use mathlib.Core.Bool.{Bool}
 use mathlib.Core.List.{List, [], _∷_}
-use Prim.Native.Nat.{ℕ, zero, suc, _<_}
+use Prim.Native.Nat.{ℕ, zero, suc, _<_, min}
 use native.Mathlib.Nat.{not-suc-le-zero, le-of-suc-le-suc}
 use native.Mathlib.Decide.{decLt}
 use native.Mathlib.Omega.{arith}
@@ -11,11 +11,12 @@ use lib.Dec.{T, eqb, ltb, eqb→eq, eqb-refl, lt→ltb}
 use lib.ListN.{length, getD}
 use Rattle.numbers.proofs.Deciding.{and-left, and-right, and-both, or-left, or-right, or-cases}
 use Rattle.setups.specs.Limits.{settingsMost}
-use Rattle.setups.specs.Clauses.{wish}
+use Rattle.setups.specs.Clauses.{wish, passes, allPass}
 use Rattle.setups.specs.Setups.{settings}
 use Rattle.setups.proofs.Settling.{wish-small}
-use Rattle.forcing.specs.Tests.{slot, isTrue, mayBe, passes, allPass, passesAt, holds}
-use Rattle.forcing.specs.Values.{Agrees}
+use Rattle.literals.specs.Slots.{slot}
+use Rattle.forcing.specs.Holding.{isTrue, mayBe, holds}
+use Rattle.forcing.specs.Values.{AgreesWith}
 
 -- ---- more literals that pass
 
@@ -32,26 +33,21 @@ module _ (test more : ℕ → Bool) (weaker : (b : ℕ) → T (test b) → T (mo
       and-both (passes more c) (allPass more cs) (passes-more c (and-left (passes test c) (allPass test cs) t))
       (all-more cs (and-right (passes test c) (allPass test cs) t))
 
-  at-more : (ss : List (List (List ℕ))) (i : ℕ) → T (passesAt test ss i) → T (passesAt more ss i)
-  at-more [] i t = t
-  at-more (s ∷ ss) zero t = all-more s t
-  at-more (s ∷ ss) (suc i) t = at-more ss i t
-
   pub holds-more : (soft : List ℕ) (i : ℕ) → T (holds test soft i) → T (holds more soft i)
   holds-more soft i t =
-      let named = ltb i settingsMost in
-      and-both named (passesAt more (settings soft) i) (and-left named (passesAt test (settings soft) i) t)
-      (at-more (settings soft) i (and-right named (passesAt test (settings soft) i) t))
+      let named = ltb i (min (length (settings soft)) settingsMost) in
+      let setting = getD (settings soft) i [] in
+      and-both named (allPass more setting) (and-left named (allPass test setting) t) (all-more setting (and-right named (allPass test setting) t))
 
 -- one of the clauses that all pass
-pub all-at : (test : ℕ → Bool) (cs : List (List ℕ)) → T (allPass test cs) → (i : ℕ) → i < length cs → T (passes test (getD cs i []))
-all-at test [] t i l = absurd (not-suc-le-zero l)
-all-at test (c ∷ cs) t zero l = and-left (passes test c) (allPass test cs) t
-all-at test (c ∷ cs) t (suc i) l = all-at test cs (and-right (passes test c) (allPass test cs) t) i (le-of-suc-le-suc l)
+pub each-passes : (test : ℕ → Bool) (cs : List (List ℕ)) → T (allPass test cs) → (i : ℕ) → i < length cs → T (passes test (getD cs i []))
+each-passes test [] t i l = absurd (not-suc-le-zero l)
+each-passes test (c ∷ cs) t zero l = and-left (passes test c) (allPass test cs) t
+each-passes test (c ∷ cs) t (suc i) l = each-passes test cs (and-right (passes test c) (allPass test cs) t) i (le-of-suc-le-suc l)
 
 -- ---- values so far, and an assignment that agrees with them
 
-module _ (values m : List ℕ) (agrees : Agrees values m) (b : ℕ) where
+module _ (values m : List ℕ) (agrees : AgreesWith values m) (b : ℕ) where
   -- what is true so far is true
   pub true-stays : T (isTrue values b) → T (isTrue m b)
   true-stays t =

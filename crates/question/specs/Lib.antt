@@ -1,3 +1,3 @@
 -- What the question under List asks and answers, and what its parts promise one another.
-pub mod Asking
-pub mod Searches
+pub mod Question
+pub mod Seeking

@@ -1,18 +1,18 @@
 // The question under List: is there a model that meets what is asked, and which settings does it make true?
 mod choosing;
-mod searching;
+mod seeking;
 
 use forcing::complete;
 use forcing::give_up;
 use forcing::stand;
 use literals::opening;
-use searching::seek;
+use seeking::seek;
 use sets::Set;
 use sets::full;
 use setups::settings_count;
 ghost use Rattle.setups.specs.Setups.{setup};
 ghost use Rattle.setups.specs.Taken.{Taken};
-ghost use Rattle.question.specs.Asking.{Says};
+ghost use Rattle.question.specs.Question.{Says};
 
 // Yes, with the settings that a model makes true which meets what is asked; No, where no such model breaks every given-up setting.
 pub enum Reply {

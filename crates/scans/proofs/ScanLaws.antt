@@ -16,7 +16,7 @@ use Rattle.setups.specs.Searching.{see, judge, scan}
 use Rattle.setups.specs.Ask.{units}
 use Rattle.setups.proofs.CheckLaws.{push-length}
 use Rattle.scans.specs.declared.Scanned.{Scanned}
-use Rattle.scans.specs.Scans.{decides, passed, scanned, further}
+use Rattle.scans.specs.Scans.{decides, clausesPassed, scanned, further}
 
 -- ---- clauses
 
@@ -32,9 +32,9 @@ unfolding scanned
 scanned-clause values clause rest = go (judge values AllFalse clause) refl
   where
     go : (k : Seen) → judge values AllFalse clause ≡ k → scanned values (clause ∷ rest) ≡ orRest k (scanned values rest)
-    go AllFalse e = rw (e, scanned, scan, passed)
-    go (OneFree b) e = rw (e, scanned, scan, passed)
-    go Enough e = rw (e, scanned, scan, passed)
+    go AllFalse e = rw (e, scanned, scan, clausesPassed)
+    go (OneFree b) e = rw (e, scanned, scan, clausesPassed)
+    go Enough e = rw (e, scanned, scan, clausesPassed)
 
 -- a clause that decides stops the scan
 rest-stops : (seen : Seen) (k : ℕ) (rest : Scanned) → decides seen ≡ true
@@ -168,8 +168,8 @@ part-passes values cs ds s e d = rw (scanned-append values cs ds, ← e, d)
 
 -- ---- a clause's number
 
-passed-most : (values : List ℕ) (cs : List (List ℕ)) → passed values cs ≤ length cs
-unfolding passed
+passed-most : (values : List ℕ) (cs : List (List ℕ)) → clausesPassed values cs ≤ length cs
+unfolding clausesPassed
 passed-most values [] = omega arith
 passed-most values (clause ∷ rest) =
     let more = passed-most values rest in

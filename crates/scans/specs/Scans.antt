@@ -20,17 +20,17 @@ decides (OneFree b) = true
 decides Enough = false
 
 -- how many clauses stand before the first that decides; all of them where none does
-unfoldable pub passed : List ℕ → List (List ℕ) → ℕ
+unfoldable pub clausesPassed : List ℕ → List (List ℕ) → ℕ
 unfolding judge
-passed values [] = 0
-passed values (clause ∷ rest) =
-    let more = 1 + passed values rest in
+clausesPassed values [] = 0
+clausesPassed values (clause ∷ rest) =
+    let more = 1 + clausesPassed values rest in
     cond (decides (judge values AllFalse clause)) 0 more
 
 -- what a scan decides, and how many clauses it has passed
 unfoldable pub scanned : List ℕ → List (List ℕ) → Scanned
-unfolding scan passed
-scanned values cs = record { seen = scan values cs; passed = passed values cs }
+unfolding scan clausesPassed
+scanned values cs = record { seen = scan values cs; passed = clausesPassed values cs }
 
 -- both variables free: (1 2) is passed, (−2 −2) forces −2
 example-scanned : scanned (2 ∷ 2 ∷ []) ((1 ∷ 2 ∷ []) ∷ (130 ∷ 130 ∷ []) ∷ []) ≡ record { seen = OneFree 130; passed = 1 }

@@ -1,7 +1,7 @@
 // One scan over all clauses: the first that is wholly false or forces a literal decides, and its number is carried.
 use literals::Values;
-use literals::place;
 use literals::see;
+use literals::slot;
 use setups::Seen;
 ghost use mathlib.Core.Path.{_≡_};
 ghost use Prim.Native.Nat.{_+_, _^_, _<_};
@@ -17,7 +17,7 @@ pub struct Scanned {
 
 impl Scanned {
     // The clause that stopped the scan is wholly false or forces a literal; else every clause has been passed.
-    fn decided(self) -> bool
+    fn decides(self) -> bool
         ensures { λ r. ⌜ r ≡ decides (self .seen) ⌝ }
     {
         let seen = self.seen;
@@ -29,7 +29,7 @@ impl Scanned {
     }
 
     // The scan of a later part, after `passed` clauses that didn't decide.
-    fn after(mut self, passed: usize) -> Scanned
+    fn further(mut self, passed: usize) -> Scanned
         requires { ⌜ passed + self .passed < 2 ^ 64 ⌝ }
         ensures { λ r. ⌜ r ≡ further passed self ⌝ }
     {
@@ -58,7 +58,7 @@ fn scan(values: Values, bytes: &[u8]) -> Scanned
                 Seen::OneFree(_) => return Scanned { seen, passed },
             }
         } else {
-            let at = place(byte);
+            let at = slot(byte);
             seen = see(seen, byte, values[at]);
         }
         i += 1;
@@ -77,7 +77,7 @@ fn scan_units(values: Values, assumed: &[u8]) -> Scanned
     let mut i = 0;
     while i < assumed.len() {
         let literal = assumed[i];
-        let at = place(literal);
+        let at = slot(literal);
         let seen = see(Seen::AllFalse, literal, values[at]);
         match seen {
             Seen::Enough => {}
@@ -98,12 +98,12 @@ pub fn scan_all(values: Values, first: &[u8], second: &[u8], assumed: &[u8]) -> 
     ensures { λ r. ⌜ r ≡ scanned values (clausesOf (now (first .entry)) (now (second .entry)) (now (assumed .entry))) ⌝ }
 {
     let one = scan(values, first);
-    if one.decided() {
+    if one.decides() {
         return one;
     }
-    let two = scan(values, second).after(one.passed);
-    if two.decided() {
+    let two = scan(values, second).further(one.passed);
+    if two.decides() {
         return two;
     }
-    scan_units(values, assumed).after(two.passed)
+    scan_units(values, assumed).further(two.passed)
 }

@@ -11,7 +11,7 @@ use Rattle.setups.specs.Search.{Found, Model, None, after}
 use Rattle.setups.specs.Searching.{split}
 use Rattle.setups.proofs.Visits.{visitsOf, after-count}
 use Rattle.search.specs.declared.Outcome.the-variants as outcome
-use Rattle.search.specs.declared.Answer.{Answer}
+use Rattle.search.specs.declared.Visited.{Visited}
 use Rattle.search.specs.Told.{withoutModel, told, either}
 
 -- ---- one search
@@ -44,11 +44,11 @@ model-not-none e = let z : _≡_ {A = ℕ} 0 1 = cc in omega arith
 pub spent-not-none : outcome.Spent ≢ outcome.None
 spent-not-none e = let z : _≡_ {A = ℕ} 0 1 = cc in omega arith
 
-outcome-so : {a b : Answer} → a ≡ b → a .outcome ≡ b .outcome
-outcome-so e = ap (λ (a : Answer). a .outcome) e
+outcome-so : {a b : Visited} → a ≡ b → a .outcome ≡ b .outcome
+outcome-so e = ap (λ (a : Visited). a .outcome) e
 
 -- a search that told None has not passed the budget
-none-within : (budget used : ℕ) (r : Found) (a : Answer) → a ≡ told budget used r → a .outcome ≡ outcome.None
+none-within : (budget used : ℕ) (r : Found) (a : Visited) → a ≡ told budget used r → a .outcome ≡ outcome.None
     → used + visitsOf r ≤ budget
 none-within budget used r a e n =
     by-cases (decLt budget (used + visitsOf r))
@@ -66,7 +66,7 @@ split-either (Model m visits) high = refl
 split-either (None visits) high = after-after 1 visits high
 
 -- a first side that tells anything but None tells for both
-pub first-tells : (budget used : ℕ) (low high : Found) (a : Answer) → a ≡ told budget used low → a .outcome ≢ outcome.None
+pub first-tells : (budget used : ℕ) (low high : Found) (a : Visited) → a ≡ told budget used low → a .outcome ≢ outcome.None
     → a ≡ told budget used (either low high)
 first-tells budget used (Model m visits) high a e n = e
 first-tells budget used (None visits) high a e n =
@@ -76,10 +76,10 @@ first-tells budget used (None visits) high a e n =
     (λ k. absurd (n (outcome-so (e ∙ sym (told-none budget used visits (omega arith))))))
 
 -- where it tells None, the second side tells for both
-pub second-tells : (budget used : ℕ) (low high : Found) (a b : Answer) → a ≡ told budget used low → a .outcome ≡ outcome.None
+pub second-tells : (budget used : ℕ) (low high : Found) (a b : Visited) → a ≡ told budget used low → a .outcome ≡ outcome.None
     → b ≡ told budget (a .used) high → b ≡ told budget used (either low high)
 second-tells budget used (Model m visits) high a b e n h =
     absurd (model-not-none (outcome-so (told-model budget used visits m (none-within budget used (Model m visits) a e n) ∙ sym e) ∙ n))
 second-tells budget used (None visits) high a b e n h =
     let low = told-none budget used visits (none-within budget used (None visits) a e n) in
-    h ∙ ap (λ (a : Answer). told budget (a .used) high) (e ∙ sym low) ∙ told-after budget used visits high
+    h ∙ ap (λ (a : Visited). told budget (a .used) high) (e ∙ sym low) ∙ told-after budget used visits high

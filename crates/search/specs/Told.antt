@@ -11,7 +11,7 @@ use Rattle.setups.specs.Searching
 use Rattle.search.specs.declared.Settled.{Settled}
 use Rattle.search.specs.declared.Outcome.{Outcome}
 use Rattle.search.specs.declared.Outcome.the-variants as outcome
-use Rattle.search.specs.declared.Answer.{Answer}
+use Rattle.search.specs.declared.Visited.{Visited}
 
 -- the end of settling, as the code hands it on
 abbrev pub settledOf : Searching.Settled → Settled
@@ -21,11 +21,11 @@ settledOf s = record { fails = s .fails; values = s .values }
 abbrev pub blank : List ℕ
 blank = replicate variablesMost 0
 
-abbrev pub withoutModel : Outcome → ℕ → Answer
+abbrev pub withoutModel : Outcome → ℕ → Visited
 withoutModel end used = record { outcome = end; used = used; values = blank }
 
 -- what is told of a search that began after `used` visits: Spent exactly when all of them are above the budget
-unfoldable pub told : ℕ → ℕ → Found → Answer
+unfoldable pub told : ℕ → ℕ → Found → Visited
 told budget used (Model m visits) =
     cond (ltb budget (used + visits)) (withoutModel outcome.Spent budget) (record { outcome = outcome.Model; used = used + visits; values = m })
 told budget used (None visits) =

@@ -19,7 +19,7 @@ pub enum Outcome {
 }
 
 // How a visit ended, with how many visits have been used since the search began; the values are the model's, else all 0.
-pub struct Answer {
+pub struct Visited {
     pub outcome: Outcome,
     pub used: u32,
     pub values: Values,

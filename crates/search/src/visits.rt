@@ -1,10 +1,11 @@
 // Visit and split: a visit settles forced values and hands over to a split, whose sides are visits with a free variable fewer.
-use crate::Answer;
 use crate::Outcome;
 use crate::Settled;
+use crate::Visited;
+use literals::FirstFree;
 use literals::Values;
 use literals::lowest_free;
-use literals::place;
+use literals::slot;
 use literals::wish;
 use numbers::VARIABLES_MOST;
 use numbers::Variable;
@@ -36,7 +37,7 @@ fn settle(start: Values, first: &[u8], second: &[u8], assumed: &[u8]) -> Settled
                 values,
             },
             Seen::OneFree(literal) => {
-                let at = place(literal);
+                let at = slot(literal);
                 values[at] = wish(literal);
             }
         }
@@ -44,10 +45,10 @@ fn settle(start: Values, first: &[u8], second: &[u8], assumed: &[u8]) -> Settled
 }
 
 // An answer that carries no model.
-fn without_model(outcome: Outcome, used: u32) -> Answer
+fn without_model(outcome: Outcome, used: u32) -> Visited
     ensures { λ r. ⌜ r ≡ withoutModel outcome used ⌝ }
 {
-    Answer {
+    Visited {
         outcome,
         used,
         values: [0u8; VARIABLES_MOST],
@@ -63,7 +64,7 @@ pub fn visit(
     assumed: &[u8],
     used: u32,
     budget: u32,
-) -> Answer
+) -> Visited
     requires { ⌜ ReadableAll (now first) (now second) (now assumed) ⌝ }
     ensures { λ r. ⌜ r ≡ told budget used (Searching.visit (clausesOf (now (first .entry)) (now (second .entry)) (now (assumed .entry))) values) ⌝ }
 {
@@ -76,15 +77,14 @@ pub fn visit(
         return without_model(Outcome::None, count);
     }
     let end = settled.values;
-    let lowest = lowest_free(end);
-    if VARIABLES_MOST < lowest.0 as usize {
-        return Answer {
+    match lowest_free(end) {
+        FirstFree::NoneFree => Visited {
             outcome: Outcome::Model,
             used: count,
             values: end,
-        };
+        },
+        FirstFree::At(variable) => split(end, variable, first, second, assumed, count, budget),
     }
-    split(end, lowest, first, second, assumed, count, budget)
 }
 
 // The two sides of a free variable: a visit with the value 0 and, if that side fails, one with the value 1.
@@ -96,7 +96,7 @@ fn split(
     assumed: &[u8],
     used: u32,
     budget: u32,
-) -> Answer
+) -> Visited
     requires { ⌜ ReadableAll (now first) (now second) (now assumed) ⌝ }
     requires { ⌜ (0 < variable .0) × (2 ≤ getD values (variable .0 - 1) 0) ⌝ }
     ensures { λ r. ⌜ r ≡ told budget used (sides (clausesOf (now (first .entry)) (now (second .entry)) (now (assumed .entry))) values (variable .0 - 1)) ⌝ }

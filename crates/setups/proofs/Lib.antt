@@ -2,7 +2,7 @@
 
 -- the tests that compute mean their propositions: Meetable, WayOut and Clash are decided
 pub mod Tests
--- clauses and truth: buffers joined, variables that occur
+-- clauses and truth: what passes depends only on the literals that occur
 pub mod Truth
 -- demand 3 over a setup: ways out and clashes
 pub mod Duality
@@ -14,7 +14,7 @@ pub mod Scanning
 pub mod Visits
 -- the search finds the first model, or there is none
 pub mod Models
--- a literal byte's place, in code and in the definitions
+-- what the tests of a byte say, and the literals of a buffer
 pub mod LiteralLaws
 -- the byte checks: the first place that offends, and what the refusals say of it
 pub mod CheckLaws

@@ -1,16 +1,17 @@
--- Literals: what the tests of a byte say, and where the code finds the value of a literal's variable.
-use mathlib.Core.Path.{_≡_, sym, _∙_}
-use mathlib.Core.Logic.{_≢_}
+-- Literals: what the tests of a byte say, of one byte and of a buffer, and the literals of a buffer's clauses.
+use mathlib.Core.Path.{_≡_, refl, sym, _∙_, subst}
+use mathlib.Core.Logic.{inl, inr, ⊎-elim, _≢_}
 use mathlib.Core.Bool.{false}
-use mathlib.Core.List.{List}
-use Prim.Native.Nat.{ℕ, _+_, _%_, _≤_, _<_}
+use mathlib.Core.List.{List, [], _∷_}
+use Prim.Native.Nat.{ℕ, zero, suc, _%_, _<_, suc-le-suc}
+use native.Mathlib.Nat.{zero-lt-suc, suc-ne-zero}
 use native.Mathlib.Omega.{arith}
 use borrow.Author.Tests.{eqb-false, ltb-false, eq-eqb, ne-eqb}
 use lib.Dec.{eqb, ltb}
 use lib.ListN.{length, getD}
+use Rattle.sets.specs.Lists.{Among}
 use Rattle.numbers.proofs.Deciding.{neither}
-use Rattle.setups.specs.Limits.{variablesMost}
-use Rattle.setups.specs.Clauses.{LiteralOf, place}
+use Rattle.setups.specs.Clauses.{push, clauses, LiteralOf, place}
 use Rattle.setups.specs.Refusals.{noLiteral, noClauseByte, offends}
 use Rattle.setups.proofs.CheckLaws.{offends-at}
 
@@ -33,15 +34,9 @@ byte-literal n b h = simp (ne-eqb b 0 h)
 pub clause-literal : (n b : ℕ) → noClauseByte n b ≡ false → b ≢ 0 → LiteralOf n b
 clause-literal n b e h = literal n b (sym (byte-literal n b h) ∙ e)
 
--- ---- the place of the variable's value
-
--- it is one of n
+-- the value of its variable has one of n places
 pub place-below : (n b : ℕ) → LiteralOf n b → place b < n
 place-below n b l = omega arith
-
--- and the one that the code computes, among 64
-pub place-found : (n b : ℕ) → n ≤ variablesMost → LiteralOf n b → (b % 128 + 63) % 64 ≡ place b
-place-found n b s l = omega arith
 
 -- ---- a buffer in which no byte offends
 
@@ -54,3 +49,21 @@ clause-bytes n bytes e i l = clause-literal n (getD bytes i 0) (offends-at (noCl
 pub assumed-bytes : (n : ℕ) (assumed : List ℕ) → offends (noLiteral n) assumed ≡ false → (i : ℕ) → i < length assumed
     → LiteralOf n (getD assumed i 0)
 assumed-bytes n assumed e i l = literal n (getD assumed i 0) (offends-at (noLiteral n) assumed e i l)
+
+-- ---- the clauses of a buffer whose bytes are literals
+
+push-literals : (n x : ℕ) (cs : List (List ℕ)) → LiteralOf n x → ((clause : List ℕ) → Among clause cs → (b : ℕ) → Among b clause → LiteralOf n b)
+    → (clause : List ℕ) → Among clause (push x cs) → (b : ℕ) → Among b clause → LiteralOf n b
+push-literals n x [] h f clause among b l = absurd among
+push-literals n x (c ∷ cs) h f clause (inl e) b l = ⊎-elim (λ k. rw k h) (f c (inl refl) b) (subst (Among b) e l)
+push-literals n x (c ∷ cs) h f clause (inr a) b l = f clause (inr a) b l
+
+-- each literal of each clause is one of n variables
+pub clauses-literals : (n : ℕ) (bytes : List ℕ) → ((i : ℕ) → i < length bytes → getD bytes i 0 ≢ 0 → LiteralOf n (getD bytes i 0))
+    → (clause : List ℕ) → Among clause (clauses bytes) → (b : ℕ) → Among b clause → LiteralOf n b
+clauses-literals n [] f clause among b l = absurd among
+clauses-literals n (zero ∷ bytes) f clause (inl e) b l = absurd (subst (Among b) e l)
+clauses-literals n (zero ∷ bytes) f clause (inr a) b l = clauses-literals n bytes (λ i h. f (suc i) (suc-le-suc h)) clause a b l
+clauses-literals n (suc x ∷ bytes) f clause among b l =
+    push-literals n (suc x) (clauses bytes) (f 0 (zero-lt-suc (length bytes)) (suc-ne-zero x))
+    (clauses-literals n bytes (λ i h. f (suc i) (suc-le-suc h))) clause among b l

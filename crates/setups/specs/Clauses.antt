@@ -43,15 +43,23 @@ wish b = cond (ltb b 128) 1 0
 abbrev pub literalTrue : List ℕ → ℕ → Bool
 literalTrue m b = eqb (getD m (place b) 0) (wish b)
 
--- a clause is true where one of its literals is: the empty clause never
+-- a clause passes a test of literals where one of its literals does: the empty clause never
+abbrev pub passes : (ℕ → Bool) → List ℕ → Bool
+passes test [] = false
+passes test (b ∷ clause) = test b || passes test clause
+
+-- every clause passes
+abbrev pub allPass : (ℕ → Bool) → List (List ℕ) → Bool
+allPass test [] = true
+allPass test (clause ∷ rest) = passes test clause && allPass test rest
+
+-- a clause is true where one of its literals is
 abbrev pub clauseTrue : List ℕ → List ℕ → Bool
-clauseTrue m [] = false
-clauseTrue m (b ∷ clause) = literalTrue m b || clauseTrue m clause
+clauseTrue m clause = passes (literalTrue m) clause
 
 -- every clause is true
 abbrev pub allTrue : List ℕ → List (List ℕ) → Bool
-allTrue m [] = true
-allTrue m (clause ∷ rest) = clauseTrue m clause && allTrue m rest
+allTrue m cs = allPass (literalTrue m) cs
 
 -- with variable 1 at 1 and variable 2 at 0: (−1 −2) is true, (−1 2) is not
 example-true : (allTrue (1 ∷ 0 ∷ []) ((129 ∷ 130 ∷ []) ∷ []) ≡ true) × (allTrue (1 ∷ 0 ∷ []) ((129 ∷ 2 ∷ []) ∷ []) ≡ false)

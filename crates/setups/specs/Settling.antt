@@ -2,25 +2,16 @@
 use mathlib.Core.Path.{_≡_, refl}
 use mathlib.Core.Logic.{_⊎_}
 use mathlib.Core.Bool.{Bool, true, false, not, _&&_, _||_}
-use mathlib.Core.List.{List, [], _∷_, _++_}
+use mathlib.Core.List.{List, [], _∷_}
 use Prim.Native.Nat.{ℕ, _-_}
 use lib.Dec.{T, ltb}
-use lib.ListN.{getD, set, replicate}
+use lib.ListN.{getD, set}
 use Rattle.sets.specs.Lists.{Among}
-use Rattle.setups.specs.Limits.{variablesMost}
 use Rattle.setups.specs.Clauses.{place, wish, literalTrue}
 
 -- A variable's value is 0 or 1, or 2 where the variable is still free.
 abbrev pub isFree : List ℕ → ℕ → Bool
 isFree values b = ltb 1 (getD values (place b) 0)
-
--- n free variables, and zeros in the places that no variable has
-abbrev pub opening : ℕ → List ℕ
-opening n = replicate n 2 ++ replicate (variablesMost - n) 0
-
--- of two variables the second is free, and the third place is 0
-example-opening : (getD (opening 2) 1 0 ≡ 2) × (getD (opening 2) 2 0 ≡ 0)
-example-opening = (refl, refl)
 
 abbrev pub isFalse : List ℕ → ℕ → Bool
 isFalse values b = not (isFree values b) && not (literalTrue values b)

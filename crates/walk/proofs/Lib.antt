@@ -3,11 +3,11 @@
 -- a node's branch as an interval of numbers
 mod Nodes
 -- what the question's two answers say of a branch
-mod Branches
+mod Replies
 -- the ways out below a bound, and more of them
-mod Growing
+mod WaysBelow
 -- from a node to the two below it
-mod Steps
+mod NodeSteps
 -- sets written over places
 pub mod Overwriting
 -- what each end of the walk leaves in the places

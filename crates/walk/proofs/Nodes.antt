@@ -5,7 +5,7 @@ use native.Mathlib.Nat.{pow-succ', mul-left-comm}
 use native.Mathlib.Omega.{arith}
 use Rattle.sets.specs.Sets.{In}
 use Rattle.sets.proofs.Digits.{high-in}
-use Rattle.walk.specs.Walking.{Decided}
+use Rattle.walk.specs.Walking.{AboveDecided}
 
 twice : (a i : ℕ) → a * 2 ^ suc i ≡ 2 * (a * 2 ^ i)
 twice a i = rw (pow-succ' 2 i) (mul-left-comm a 2 (2 ^ i))
@@ -15,7 +15,7 @@ low-out : (i a : ℕ) → ¬ In i (a * 2 ^ suc i)
 low-out i a h = let k = high-in (suc i) a i h in omega (arith, k .1)
 
 -- at the root no setting is decided
-pub root-decided : (n : ℕ) → Decided n n 0 0
+pub root-decided : (n : ℕ) → AboveDecided n n 0 0
 root-decided n = record {
   above = 0;
   highGiven = 0;
@@ -26,7 +26,7 @@ root-decided n = record {
   whole = omega arith;
 }
 
-module _ (n i given kept : ℕ) (h : Decided n (suc i) given kept) where
+module _ (n i given kept : ℕ) (h : AboveDecided n (suc i) given kept) where
   -- the highest setting left is neither given up nor kept
   pub not-given : ¬ In i given
   not-given k = low-out i (h .highGiven) (subst (In i) (h .gives) k)
@@ -35,7 +35,7 @@ module _ (n i given kept : ℕ) (h : Decided n (suc i) given kept) where
   not-kept k = low-out i (h .highKept) (subst (In i) (h .keeps) k)
 
   -- it is kept next
-  pub keep-decided : Decided n i given (kept + 2 ^ i)
+  pub keep-decided : AboveDecided n i given (kept + 2 ^ i)
   keep-decided = record {
     above = suc (h .above);
     highGiven = 2 * h .highGiven;
@@ -47,7 +47,7 @@ module _ (n i given kept : ℕ) (h : Decided n (suc i) given kept) where
   }
 
   -- or given up
-  pub give-decided : Decided n i (given + 2 ^ i) kept
+  pub give-decided : AboveDecided n i (given + 2 ^ i) kept
   give-decided = record {
     above = suc (h .above);
     highGiven = 2 * h .highGiven + 1;

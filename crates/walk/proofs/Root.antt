@@ -9,9 +9,9 @@ use Rattle.sets.proofs.Digits.{none-in}
 use Rattle.sets.proofs.Lists.{exactly-iff}
 use Rattle.setups.specs.Setups.{Setup, count, Together, WayOut}
 use Rattle.walk.specs.declared.Node.{Node}
-use Rattle.walk.specs.Walking.{Below, Between, Reached, Stands, Walked}
+use Rattle.walk.specs.Walking.{Below, WayOutBetween, Reached, Witnessed, Walked}
 use Rattle.walk.proofs.Nodes.{root-decided}
-use Rattle.walk.proofs.Branches.{some-way-out}
+use Rattle.walk.proofs.Replies.{some-way-out}
 
 -- below 0 there is no set
 below-none : (g : Setup) → Below g 0 []
@@ -26,7 +26,7 @@ module _ (g : Setup) (settings : ℕ) (e : settings ≡ count g) where
   root-reached = record { decided = rw e (root-decided (count g)); before = below-none g }
 
   -- an empty branch at the root: the hard clauses have no model, since every model of theirs leaves a way out
-  pub root-unmet : ¬ Between g 0 (0 + 2 ^ settings) → ¬ Together g 0
+  pub root-unmet : ¬ WayOutBetween g 0 (0 + 2 ^ settings) → ¬ Together g 0
   root-unmet dead t =
       dead
       (some-way-out g settings 0 0 [] (root-reached .decided) (root-reached .before) (t .0) (record { models = t .1; each = λ W h. absurd h }))
@@ -39,6 +39,6 @@ module _ (g : Setup) (settings : ℕ) (e : settings ≡ count g) where
       rw (← top) w
 
 -- and the hard clauses have a model
-pub root-met : {g : Setup} {live : Node} → Stands g live [] → Together g 0
+pub root-met : {g : Setup} {live : Node} → Witnessed g live [] → Together g 0
 root-met s =
     (s .model, record { assigns = s .meets .models .assigns; hard = s .meets .models .hard; kept = λ i l k. absurd (none-in i k) })

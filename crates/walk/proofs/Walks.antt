@@ -7,13 +7,13 @@ use lib.ListN.{length, take, set, length-append}
 use lib.Seq.{length-take-le}
 use Rattle.setups.specs.Setups.{Setup}
 use Rattle.walk.specs.declared.Node.{Node}
-use Rattle.walk.specs.Walking.{GivesUp, Below, Between, Reached, Stands, Walked}
-use Rattle.walk.proofs.Steps.{Known, give-from, give-to, give-reached, end-way-out}
-use Rattle.walk.proofs.Growing.{below-skip, below-more, below-on, below-next}
+use Rattle.walk.specs.Walking.{GivesUpHighest, Below, WayOutBetween, Reached, Witnessed, Walked}
+use Rattle.walk.proofs.NodeSteps.{Known, give-from, give-to, give-reached, end-way-out}
+use Rattle.walk.proofs.WaysBelow.{below-skip, below-more, below-on, below-next}
 use Rattle.walk.proofs.Overwriting.{over-length, over-full, over-again, over-store, over-take}
 
 -- With no setting left the given-up set is put behind those found.
-pub walked-end : (g : Setup) (node : Node) (filled : ℕ) (places : List ℕ) → node .left ≡ 0 → Stands g node (take filled places) → filled < length places
+pub walked-end : (g : Setup) (node : Node) (filled : ℕ) (places : List ℕ) → node .left ≡ 0 → Witnessed g node (take filled places) → filled < length places
     → Walked g (node .given + 2 ^ node .left) places (set places filled (node .given)) (filled + 1)
 walked-end g node filled places e s l = rw e (record {
   ways = take filled places ++ (node .given ∷ []);
@@ -46,7 +46,7 @@ module _ (g : Setup) (middle top : ℕ) (places after : List ℕ) (filled : ℕ)
       rw (w .places, e, over-take (w .ways) places m) (w .exact)
 
   -- there is none from `middle` up
-  pub walked-dead : ¬ Between g middle top → Walked g top places after filled
+  pub walked-dead : ¬ WayOutBetween g middle top → Walked g top places after filled
   walked-dead dead =
       record { ways = w .ways; exact = below-skip g middle top (w .ways) l (w .exact) dead; places = w .places; count = w .count }
 
@@ -64,7 +64,7 @@ module _ (g : Setup) (middle top : ℕ) (places after : List ℕ) (filled : ℕ)
 -- The two branches below a node: the walk is through with that of `kept`, and `up` is the other.
 pub record Half (g : Setup) (node up kept : Node) (places after : List ℕ) (filled : ℕ) : Type 0 where
   pub known : Known g node
-  pub gives : GivesUp node up
+  pub gives : GivesUpHighest node up
   pub left : kept .left ≡ node .left - 1
   pub given : kept .given ≡ node .given
   pub walked : Walked g (kept .given + 2 ^ kept .left) places after filled
@@ -87,7 +87,7 @@ module _ {g : Setup} {node up kept : Node} {places after : List ℕ} {filled : �
   pub half-reached : filled < length after → Reached g up (take filled after)
   half-reached room = give-reached (h .known) (h .gives) (walked-below g (up .given) top places after filled more half room)
 
-  pub half-dead : ¬ Between g (up .given) (up .given + 2 ^ up .left) → Walked g (node .given + 2 ^ node .left) places after filled
+  pub half-dead : ¬ WayOutBetween g (up .given) (up .given + 2 ^ up .left) → Walked g (node .given + 2 ^ node .left) places after filled
   unfolding top
   half-dead dead = walked-dead g (up .given) top places after filled more half (rw (give-to (h .known) (h .gives)) at dead)
 

@@ -10,7 +10,7 @@ ghost use Prim.Native.Nat.{_+_, _-_, _^_, _<_};
 ghost use lib.ListN.{length, take, set};
 ghost use Rattle.setups.specs.Setups.{setup};
 ghost use Rattle.setups.specs.Taken.{Taken};
-ghost use Rattle.walk.specs.Walking.{Keeps, GivesUp, Reached, Stands, Enters, Walked};
+ghost use Rattle.walk.specs.Walking.{KeepsHighest, GivesUpHighest, Reached, Witnessed, Enters, Walked};
 
 // A node of the walk: the settings above the first `left` are decided, those of `kept` kept and those of `given` given up. At a live
 // node the witness is what some model makes true that meets what the node asks.
@@ -22,7 +22,7 @@ pub struct Node {
 }
 
 // A node before it is entered: live with its witness, or without a way out in its branch.
-pub enum Branch {
+pub enum Entered {
     Live(Node),
     Dead,
 }
@@ -30,7 +30,7 @@ pub enum Branch {
 // The node below, where the highest setting left is kept.
 fn keep(node: Node) -> Node
     requires { ⌜ 0 < node .left ⌝ }
-    ensures { λ r. ⌜ Keeps node r ⌝ }
+    ensures { λ r. ⌜ KeepsHighest node r ⌝ }
 {
     Node {
         left: node.left - 1,
@@ -43,7 +43,7 @@ fn keep(node: Node) -> Node
 // The node below, where it is given up.
 fn give_up(node: Node) -> Node
     requires { ⌜ 0 < node .left ⌝ }
-    ensures { λ r. ⌜ GivesUp node r ⌝ }
+    ensures { λ r. ⌜ GivesUpHighest node r ⌝ }
 {
     Node {
         left: node.left - 1,
@@ -54,32 +54,32 @@ fn give_up(node: Node) -> Node
 }
 
 // The question before a node is entered: Yes brings the witness, and after No the branch holds no way out.
-pub fn enter(count: u32, hard: &[u8], soft: &[u8], node: Node, found: &[Set]) -> Branch
+pub fn enter(count: u32, hard: &[u8], soft: &[u8], node: Node, found: &[Set]) -> Entered
     requires { ⌜ Taken (setup count (now hard) (now soft)) ⌝ }
     requires { ⌜ Reached (setup count (now hard) (now soft)) node (now found) ⌝ }
     ensures { λ r. ⌜ Enters (setup count (now (hard .entry)) (now (soft .entry))) (node .left) (node .given) (now (found .entry)) r ⌝ }
 {
     match question(count, hard, soft, node.kept, node.given, found) {
-        Reply::Yes(witness) => Branch::Live(Node {
+        Reply::Yes(witness) => Entered::Live(Node {
             left: node.left,
             given: node.given,
             kept: node.kept,
             witness,
         }),
-        Reply::No => Branch::Dead,
+        Reply::No => Entered::Dead,
     }
 }
 
 // Keeping the highest setting left. Where the witness has it, the same model serves and no question is asked.
-fn keeping(count: u32, hard: &[u8], soft: &[u8], node: Node, found: &[Set]) -> Branch
+fn keeping(count: u32, hard: &[u8], soft: &[u8], node: Node, found: &[Set]) -> Entered
     requires { ⌜ Taken (setup count (now hard) (now soft)) ⌝ }
-    requires { ⌜ Stands (setup count (now hard) (now soft)) node (now found) ⌝ }
+    requires { ⌜ Witnessed (setup count (now hard) (now soft)) node (now found) ⌝ }
     requires { ⌜ 0 < node .left ⌝ }
     ensures { λ r. ⌜ Enters (setup count (now (hard .entry)) (now (soft .entry))) (node .left - 1) (node .given) (now (found .entry)) r ⌝ }
 {
     let kept = keep(node);
     if has(node.witness, Setting(node.left)) {
-        return Branch::Live(kept);
+        return Entered::Live(kept);
     }
     enter(count, hard, soft, kept, found)
 }
@@ -104,7 +104,7 @@ pub fn walk(
     filled: usize,
 ) -> usize
     requires { ⌜ Taken (setup count (now hard) (now soft)) ⌝ }
-    requires { ⌜ Stands (setup count (now hard) (now soft)) node (take filled (now found)) ⌝ }
+    requires { ⌜ Witnessed (setup count (now hard) (now soft)) node (take filled (now found)) ⌝ }
     requires { ⌜ filled < length (now found) ⌝ }
     ensures { λ r. ⌜ Walked (setup count (now (hard .entry)) (now (soft .entry))) (node .given + 2 ^ node .left) (now (found .entry)) (now (found .exit)) r ⌝ }
 {
@@ -112,14 +112,14 @@ pub fn walk(
         return store(found, filled, node.given);
     }
     let given_up = give_up(node);
-    let Branch::Live(kept) = keeping(count, hard, soft, node, &found[..filled]) else {
+    let Entered::Live(kept) = keeping(count, hard, soft, node, &found[..filled]) else {
         return walk(count, hard, soft, given_up, found, filled);
     };
     let reached = walk(count, hard, soft, kept, found, filled);
     if found.len() <= reached {
         return reached;
     }
-    let Branch::Live(live) = enter(count, hard, soft, given_up, &found[..reached]) else {
+    let Entered::Live(live) = enter(count, hard, soft, given_up, &found[..reached]) else {
         return reached;
     };
     walk(count, hard, soft, live, found, reached)

@@ -4,7 +4,7 @@ use mathlib.Core.List.{List}
 use Prim.Native.Nat.{ℕ}
 use borrow.Author.Needs.{needs}
 use lib.ListN.{length}
-use Rattle.setups.specs.Settling.{opening}
+use Rattle.literals.specs.Slots.{opening}
 use Rattle.setups.specs.Searching as searching
 use Rattle.setups.specs.Ask.{askClauses}
 use Rattle.search.specs.Told.{told}

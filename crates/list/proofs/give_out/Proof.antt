@@ -4,8 +4,8 @@ use mathlib.Core.List.{[]}
 use borrow.Author.Needs.{needs}
 use native.Mathlib.Omega.{arith}
 use Rattle.setups.specs.Setups.{setup}
-use Rattle.walk.specs.declared.Branch.{Branch}
-use Rattle.walk.specs.declared.Branch.the-variants.{Live, Dead}
+use Rattle.walk.specs.declared.Entered.{Entered}
+use Rattle.walk.specs.declared.Entered.the-variants.{Live, Dead}
 use Rattle.walk.specs.Walking.{Enters}
 use Rattle.walk.proofs.Root.{root-reached, root-met, root-walked}
 use Rattle.list.proofs.Giving.{root-dead, Whole, whole-many, whole-listed}
@@ -13,7 +13,7 @@ use Rattle.list.proofs.give_out.Statement.{statement}
 use Rattle.list.proofs.give_out.Tie as tie
 
 -- what the question at the root answered
-root : (c : tie.After-enter) (r : Branch) → c .enter .result ≡ r
+root : (c : tie.After-enter) (r : Entered) → c .enter .result ≡ r
     → (let a = c .before .before .before .before .before .before .args in Enters (setup (a .count) (a .hard .now) (a .soft .now)) (a .settings) 0 [] r)
 root c r e =
     let a = c .before .before .before .before .before .before .args in

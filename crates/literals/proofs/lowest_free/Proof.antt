@@ -1,8 +1,9 @@
 -- `values::lowest_free` meets its contract. The loop's invariant: no variable below this one is free.
-use Prim.Native.Nat.{_-_}
+use Prim.Native.Nat.{suc, _-_}
 use native.Mathlib.Omega.{arith}
 use borrow.Author.Needs.{needs}
-use Rattle.literals.proofs.ValueLaws.{Passed, passed-starts, passed-found, passed-next, passed-ends}
+use Rattle.setups.specs.Limits.{variablesMost}
+use Rattle.literals.proofs.SlotLaws.{Passed, passed-starts, passed-found, passed-next, passed-ends}
 use Rattle.literals.proofs.lowest_free.Statement.{statement}
 use Rattle.literals.proofs.lowest_free.Tie as tie
 
@@ -10,7 +11,7 @@ abbrev Inv-loop : tie.InvT-loop
 Inv-loop values variable₀ variable = Passed values (variable .0)
 
 abbrev μ-loop : tie.MeasureT-loop
-μ-loop values variable₀ variable = 65 - variable .0
+μ-loop values variable₀ variable = suc variablesMost - variable .0
 
 loop-holds : tie.Need-loop-holds Inv-loop μ-loop
 loop-holds c = passed-starts _ (search needs)

@@ -2,8 +2,9 @@
 use mathlib.Core.Path.{_≡_, refl, ap, _∙_}
 use Prim.Native.Nat.{_≤_, _-_, _<_}
 use native.Mathlib.Omega.{arith}
-use Rattle.setups.specs.Settling.{opening}
-use Rattle.literals.proofs.ValueLaws.{opening-more}
+use Rattle.setups.specs.Limits.{variablesMost}
+use Rattle.literals.specs.Slots.{opening}
+use Rattle.literals.proofs.SlotLaws.{opening-more}
 use Rattle.literals.proofs.opening.Statement.{statement}
 use Rattle.literals.proofs.opening.Tie as tie
 
@@ -28,7 +29,7 @@ loop-less c = omega arith
 loop-again : tie.Need-loop-again Inv-loop μ-loop
 loop-again c =
     let at = c .before in
-    let l : at .loop .i < 64 = omega arith in
+    let l : at .loop .i < variablesMost = omega arith in
     (omega arith, rw (at .loop .inv .1) (opening-more (at .loop .i) l))
 
 returns : tie.Need-returns Inv-loop μ-loop

@@ -2,6 +2,7 @@
 use mathlib.Core.Path.{_≡_, _∙_, ap}
 use Prim.Native.Nat.{ℕ, _-_, _^_, min}
 use borrow.Author.Needs.{needs}
+use Rattle.setups.specs.Limits.{settingsMost}
 use Rattle.setups.specs.Setups.{setup, count}
 use Rattle.question.proofs.Answers.{given-below, no-start, no-model, yes-model}
 use Rattle.question.proofs.question.Statement.{statement}
@@ -22,8 +23,8 @@ opening-requires c κs = search needs
 -- `full` gives the set of all settings
 every : (c : tie.After-full) →
     let a = c .before .before .before .before .before .args in
-    c .full .result ≡ 2 ^ min (count (setup (a .count) (a .hard .now) (a .soft .now))) 32 - 1
-every c = c .full .ensures ∙ ap (λ (x : ℕ). 2 ^ min x 32 - 1) (c .before .settings-count .ensures)
+    c .full .result ≡ 2 ^ min (count (setup (a .count) (a .hard .now) (a .soft .now))) settingsMost - 1
+every c = c .full .ensures ∙ ap (λ (x : ℕ). 2 ^ min x settingsMost - 1) (c .before .settings-count .ensures)
 
 give-up-requires : tie.Need-give-up-requires
 give-up-requires c κs =

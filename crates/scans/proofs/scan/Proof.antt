@@ -7,7 +7,7 @@ use borrow.Author.Needs.{needs}
 use lib.ListN.{length}
 use Rattle.scans.specs.Scans.{decides}
 use Rattle.scans.proofs.ScanLaws.{ScansFrom, scan-starts, scan-literal, scan-passes, scan-stops, scan-ends}
-use Rattle.scans.proofs.Literals.{sees}
+use Rattle.scans.proofs.Literals.{sees-value}
 use Rattle.scans.proofs.scan.Statement.{statement}
 use Rattle.scans.proofs.scan.Tie as tie
 
@@ -45,11 +45,11 @@ returns-2 c =
     let at = c .before .before in
     scan-stops (at .before .before .before .loop .inv) (at .before .before .loop-test .taken) (at .if1 .taken) (ap decides (c .enum-told3 .given .1))
 
-place-requires : tie.Need-place-requires Inv-loop μ-loop
-place-requires c κs = search needs
+slot-requires : tie.Need-slot-requires Inv-loop μ-loop
+slot-requires c κs = search needs
 
 array-read-see : tie.Need-array-read-see Inv-loop μ-loop
-array-read-see c = omega (arith, c .place .ensures)
+array-read-see c = omega (arith, c .slot .ensures)
 
 see-requires : tie.Need-see-requires Inv-loop μ-loop
 see-requires c κs = search needs
@@ -68,7 +68,7 @@ loop-again c =
     ⊎-elim (λ w. rw (w .3, w .4) (scan-passes (at .loop .inv) inside (w .0 .taken) (w .2 .given .1)))
     (λ w.
     let literal = start .pre (at .loop .i) inside (w .0 .left) in
-    let seen = w .3 ∙ w .2 .ensures ∙ sees (start .args .t1) (at .loop .seen) _ (w .1 .result) literal (w .1 .ensures) in
+    let seen = w .3 ∙ w .2 .ensures ∙ sees-value (start .args .t1) (at .loop .seen) _ (w .1 .result) literal (w .1 .ensures) in
     rw (seen, w .4) (scan-literal (at .loop .inv) inside (w .0 .left)))
     (c .if1 .came)
 
@@ -89,7 +89,7 @@ scan-spec =
     returns
     enum-told-3
     returns-2
-    place-requires
+    slot-requires
     array-read-see
     see-requires
     add-i

@@ -13,19 +13,19 @@ use Rattle.scans.proofs.scan_all.Tie as tie
 scan-requires : tie.Need-scan-requires
 scan-requires c κs = search needs
 
-decided-requires : tie.Need-decided-requires
-decided-requires c κs = search needs
+decides-requires : tie.Need-decides-requires
+decides-requires c κs = search needs
 
 returns : tie.Need-returns
 returns c =
     let one = c .before .before in
-    part-decides _ _ _ (one .scan .result) (one .scan .ensures) (sym (c .before .decided .ensures) ∙ c .if1 .taken)
+    part-decides _ _ _ (one .scan .result) (one .scan .ensures) (sym (c .before .decides .ensures) ∙ c .if1 .taken)
 
 scan-requires-2 : tie.Need-scan-requires-2
 scan-requires-2 c κs = search needs
 
-after-requires : tie.Need-after-requires
-after-requires c κs =
+further-requires : tie.Need-further-requires
+further-requires c κs =
     let one = c .before .before .before in
     let start = one .before .before .before .before in
     omega (
@@ -37,27 +37,27 @@ after-requires c κs =
 
 -- the scan of both buffers, where the first doesn't decide
 both :
-    (c : tie.After-after) →
+    (c : tie.After-further) →
     let start = c .before .before .before .before .before .before .before .before in
-    c .after .result ≡ scanned (start .args .values) (clauses (start .args .first .now) ++ clauses (start .args .second .now))
+    c .further .result ≡ scanned (start .args .values) (clauses (start .args .first .now) ++ clauses (start .args .second .now))
 both c =
     let one = c .before .before .before .before in
-    c .after .ensures ∙ ap (further (one .scan .result .passed)) (c .before .scan2 .ensures)
-    ∙ part-passes _ _ _ (one .scan .result) (one .scan .ensures) (sym (c .before .before .before .decided .ensures) ∙ c .before .before .if1 .left)
+    c .further .ensures ∙ ap (further (one .scan .result .passed)) (c .before .scan2 .ensures)
+    ∙ part-passes _ _ _ (one .scan .result) (one .scan .ensures) (sym (c .before .before .before .decides .ensures) ∙ c .before .before .if1 .left)
 
-decided-requires-2 : tie.Need-decided-requires-2
-decided-requires-2 c κs = search needs
+decides-requires-2 : tie.Need-decides-requires-2
+decides-requires-2 c κs = search needs
 
 returns-2 : tie.Need-returns-2
 returns-2 c =
     let two = c .before .before in
-    rw (← append-assoc) (part-decides _ _ _ (two .after .result) (both two) (sym (c .before .decided2 .ensures) ∙ c .if2 .taken))
+    rw (← append-assoc) (part-decides _ _ _ (two .further .result) (both two) (sym (c .before .decides2 .ensures) ∙ c .if2 .taken))
 
 scan-units-requires : tie.Need-scan-units-requires
 scan-units-requires c κs = search needs
 
-after-requires-2 : tie.Need-after-requires-2
-after-requires-2 c κs =
+further-requires-2 : tie.Need-further-requires-2
+further-requires-2 c κs =
     let two = c .before .before .before in
     let one = two .before .before .before .before in
     let start = one .before .before .before .before in
@@ -67,27 +67,27 @@ after-requires-2 c κs =
       bytes-most (start .args .values) (start .args .first .now) (one .scan .result) (one .scan .ensures),
       bytes-most (start .args .values) (start .args .second .now) (two .before .scan2 .result) (two .before .scan2 .ensures),
       units-most (start .args .values) (start .args .assumed .now) (c .scan-units .result) (c .scan-units .ensures),
-      ap (λ (s : Scanned). s .passed) (two .after .ensures),
+      ap (λ (s : Scanned). s .passed) (two .further .ensures),
     )
 
 returns-3 : tie.Need-returns-3
 returns-3 c =
     let two = c .before .before .before .before in
-    let undecided = sym (c .before .before .before .decided2 .ensures) ∙ c .before .before .if2 .left in
-    c .after2 .ensures ∙ ap (further (two .after .result .passed)) (c .before .scan-units .ensures)
-    ∙ rw (← append-assoc) (part-passes _ _ _ (two .after .result) (both two) undecided)
+    let undecided = sym (c .before .before .before .decides2 .ensures) ∙ c .before .before .if2 .left in
+    c .further2 .ensures ∙ ap (further (two .further .result .passed)) (c .before .scan-units .ensures)
+    ∙ rw (← append-assoc) (part-passes _ _ _ (two .further .result) (both two) undecided)
 
 pub scan-all-spec : {M : Type 1} → statement M
 scan-all-spec =
     tie.close
     (tie.spec
     scan-requires
-    decided-requires
+    decides-requires
     returns
     scan-requires-2
-    after-requires
-    decided-requires-2
+    further-requires
+    decides-requires-2
     returns-2
     scan-units-requires
-    after-requires-2
+    further-requires-2
     returns-3)

@@ -8,7 +8,7 @@ use Rattle.setups.specs.declared.Seen.the-variants.{AllFalse}
 use Rattle.setups.specs.Searching.{see}
 use Rattle.scans.specs.Scans.{decides}
 use Rattle.scans.proofs.ScanLaws.{UnitsFrom, units-start, unit-passes, unit-stops, units-end}
-use Rattle.scans.proofs.Literals.{sees}
+use Rattle.scans.proofs.Literals.{sees-value}
 use Rattle.scans.proofs.scan_units.Statement.{statement}
 use Rattle.scans.proofs.scan_units.Tie as tie
 
@@ -27,7 +27,7 @@ seen-here c =
     let at = c .before .before .before .before in
     let start = at .before .before in
     let literal = start .pre (at .loop .i) (c .before .before .before .loop-test .taken) in
-    c .see .ensures ∙ sees (start .args .t1) AllFalse _ (c .before .place .result) literal (c .before .place .ensures)
+    c .see .ensures ∙ sees-value (start .args .t1) AllFalse _ (c .before .slot .result) literal (c .before .slot .ensures)
 
 loop-holds : tie.Need-loop-holds Inv-loop μ-loop
 loop-holds c = units-start (c .before .args .t1) (c .before .args .assumed .now)
@@ -35,11 +35,11 @@ loop-holds c = units-start (c .before .args .t1) (c .before .args .assumed .now)
 shared-slice-read-literal : tie.Need-shared-slice-read-literal Inv-loop μ-loop
 shared-slice-read-literal c = search needs
 
-place-requires : tie.Need-place-requires Inv-loop μ-loop
-place-requires c κs = search needs
+slot-requires : tie.Need-slot-requires Inv-loop μ-loop
+slot-requires c κs = search needs
 
 array-read-see : tie.Need-array-read-see Inv-loop μ-loop
-array-read-see c = omega (arith, c .place .ensures)
+array-read-see c = omega (arith, c .slot .ensures)
 
 see-requires : tie.Need-see-requires Inv-loop μ-loop
 see-requires c κs = search needs
@@ -88,7 +88,7 @@ scan-units-spec =
     μ-loop
     loop-holds
     shared-slice-read-literal
-    place-requires
+    slot-requires
     array-read-see
     see-requires
     enum-told

@@ -8,10 +8,10 @@ use borrow.Author.Needs.{needs}
 use borrow.Fn.Kinds.{In}
 use borrow.Fn.PlainCycle.{Measures, is, falls, and}
 use Rattle.setups.specs.Setups.{Setup, setup}
-use Rattle.walk.specs.declared.Branch.{Branch}
-use Rattle.walk.specs.declared.Branch.the-variants.{Live, Dead}
+use Rattle.walk.specs.declared.Entered.{Entered}
+use Rattle.walk.specs.declared.Entered.the-variants.{Live, Dead}
 use Rattle.walk.specs.Walking.{Enters}
-use Rattle.walk.proofs.Steps.{Known, give-to, give-stands}
+use Rattle.walk.proofs.NodeSteps.{Known, give-to, give-witnessed}
 use Rattle.walk.proofs.Walks.{Half, walked-end, half-full, half-reached, half-dead, half-on}
 use Rattle.walk.proofs.walk.Reads as walk
 use Rattle.walk.proofs.walk.Kinds as walk-kinds
@@ -32,26 +32,26 @@ walk-at t = and 3 walk-kinds.ps (is 3 walk-kinds.ps μ-walk t) walk.Pre
 abbrev walk-below : ℕ → In 3 walk-kinds.ps
 walk-below t = and 3 walk-kinds.ps (falls 3 walk-kinds.ps _<_ μ-walk t) walk.Pre
 
-abbrev told : ℕ → walk-lts.Claims
-told t = (store-reads.Asked, store-reads.Learnt, give-up-reads.Asked, give-up-reads.Learnt, keeping-reads.Asked, keeping-reads.Learnt, walk-below t, walk.Post, enter-reads.Asked, enter-reads.Learnt)
+abbrev claims : ℕ → walk-lts.Claims
+claims t = (store-reads.Asked, store-reads.Learnt, give-up-reads.Asked, give-up-reads.Learnt, keeping-reads.Asked, keeping-reads.Learnt, walk-below t, walk.Post, enter-reads.Asked, enter-reads.Learnt)
 
 -- ---- what is known at five places: at the start, below the node, after `keeping`, after the walk of the kept branch, and after the
 -- question before the other branch
 
 abbrev Begun : ℕ → Type 0
-Begun t = walk-lts.Start (told t) (walk-at t) walk.Post
+Begun t = walk-lts.Start (claims t) (walk-at t) walk.Post
 
 abbrev Down : ℕ → Type 0
-Down t = walk-lts.After-give-up (told t) (walk-at t) walk.Post
+Down t = walk-lts.After-give-up (claims t) (walk-at t) walk.Post
 
 abbrev Kept : ℕ → Type 0
-Kept t = walk-lts.After-keeping (told t) (walk-at t) walk.Post
+Kept t = walk-lts.After-keeping (claims t) (walk-at t) walk.Post
 
 abbrev Halfway : ℕ → Type 0
-Halfway t = walk-lts.After-walk2 (told t) (walk-at t) walk.Post
+Halfway t = walk-lts.After-walk2 (claims t) (walk-at t) walk.Post
 
-abbrev Entered : ℕ → Type 0
-Entered t = walk-lts.After-enter (told t) (walk-at t) walk.Post
+abbrev Answered : ℕ → Type 0
+Answered t = walk-lts.After-enter (claims t) (walk-at t) walk.Post
 
 abbrev entry : (t : ℕ) → Down t → Begun t
 entry t c = c .before .before .before .before .before .before
@@ -67,7 +67,7 @@ fewer : (t : ℕ) (c : Down t) → c .give-up .result .left < t
 fewer t c = omega (arith, c .give-up .ensures .left, entry t c .pre .0)
 
 -- what keeping answered
-keeps : (t : ℕ) (c : Kept t) (r : Branch) → c .keeping .result ≡ r
+keeps : (t : ℕ) (c : Kept t) (r : Entered) → c .keeping .result ≡ r
     → (let s = entry t (c .before .before) in Enters (setup-at t s) (s .args .node .left - 1) (s .args .node .given) (take (s .args .filled) (s .args .found .now)) r)
 keeps t c r e =
     let s = entry t (c .before .before) in
@@ -85,7 +85,7 @@ half t c =
     record { known = known t s; gives = down .give-up .ensures; left = live .1; given = live .2; walked = c .walk2 .ensures }
 
 -- what the question before the other branch answered
-enters : (t : ℕ) (c : Entered t) (r : Branch) → c .enter .result ≡ r
+enters : (t : ℕ) (c : Answered t) (r : Entered) → c .enter .result ≡ r
     → (let w = c .before .before .before .before .before in let down = w .before .before .before .before .before .before .before in let s = entry t down in
     Enters (setup-at t s) (down .give-up .result .left) (down .give-up .result .given) (take (w .walk2 .result) (w .walk2 .last .1 .1 .1 .1 .0)) r)
 enters t c r e =
@@ -96,13 +96,13 @@ enters t c r e =
 
 -- ---- no setting is left
 
-walk-store-requires : (t : ℕ) → walk-lts.Need-store-requires (told t) (walk-at t) walk.Post
+walk-store-requires : (t : ℕ) → walk-lts.Need-store-requires (claims t) (walk-at t) walk.Post
 walk-store-requires t c κs = c .before .before .before .before .before .before .pre .1 .1 .1
 
-walk-same-length : (t : ℕ) → walk-lts.Need-same-length (told t) (walk-at t) walk.Post
+walk-same-length : (t : ℕ) → walk-lts.Need-same-length (claims t) (walk-at t) walk.Post
 walk-same-length t c = c .before .before .store .kept .0
 
-walk-returns : (t : ℕ) → walk-lts.Need-returns (told t) (walk-at t) walk.Post
+walk-returns : (t : ℕ) → walk-lts.Need-returns (claims t) (walk-at t) walk.Post
 walk-returns t c =
     let stored = c .before .before .store in
     let s = c .before .before .before .before .before .before .before .before .before in
@@ -110,48 +110,48 @@ walk-returns t c =
 
 -- ---- keeping
 
-walk-give-up-requires : (t : ℕ) → walk-lts.Need-give-up-requires (told t) (walk-at t) walk.Post
+walk-give-up-requires : (t : ℕ) → walk-lts.Need-give-up-requires (claims t) (walk-at t) walk.Post
 walk-give-up-requires t c κs = search needs
 
-walk-slice-reshare-prefix-keeping : (t : ℕ) → walk-lts.Need-slice-reshare-prefix-keeping (told t) (walk-at t) walk.Post
+walk-slice-reshare-prefix-keeping : (t : ℕ) → walk-lts.Need-slice-reshare-prefix-keeping (claims t) (walk-at t) walk.Post
 walk-slice-reshare-prefix-keeping t c = omega arith
 
-walk-slice-aggregate-keeping : (t : ℕ) → walk-lts.Need-slice-aggregate-keeping (told t) (walk-at t) walk.Post
+walk-slice-aggregate-keeping : (t : ℕ) → walk-lts.Need-slice-aggregate-keeping (claims t) (walk-at t) walk.Post
 walk-slice-aggregate-keeping t c =
     let s = entry t (c .before) in
     sym (length-take-le (s .args .filled) (s .args .found .now) (omega arith))
 
-walk-keeping-requires : (t : ℕ) → walk-lts.Need-keeping-requires (told t) (walk-at t) walk.Post
+walk-keeping-requires : (t : ℕ) → walk-lts.Need-keeping-requires (claims t) (walk-at t) walk.Post
 walk-keeping-requires t c κs = let s = entry t (c .before) in (s .pre .1 .0, (s .pre .1 .1 .0, omega arith))
 
-walk-enum-known-kept : (t : ℕ) → walk-lts.Need-enum-known-kept (told t) (walk-at t) walk.Post
+walk-enum-known-kept : (t : ℕ) → walk-lts.Need-enum-known-kept (claims t) (walk-at t) walk.Post
 walk-enum-known-kept t c = search needs
 
-walk-enum-told : (t : ℕ) → walk-lts.Need-enum-told (told t) (walk-at t) walk.Post
+walk-enum-told : (t : ℕ) → walk-lts.Need-enum-told (claims t) (walk-at t) walk.Post
 walk-enum-told t c = search needs
 
 -- ---- after a dead keep
 
-walk-walk-requires : (t : ℕ) → walk-lts.Need-walk-requires (told t) (walk-at t) walk.Post
+walk-walk-requires : (t : ℕ) → walk-lts.Need-walk-requires (claims t) (walk-at t) walk.Post
 walk-walk-requires t c κs =
     let kept = c .before .before .before in
     let down = kept .before .before in
     let s = entry t down in (
       fewer t down,
-      (s .pre .1 .0, (give-stands (s .pre .1 .0 .settings) (s .pre .1 .1 .0) (down .give-up .ensures) (keeps t kept Dead (c .before .enum-told .given .1)), s .pre .1 .1 .1)),
+      (s .pre .1 .0, (give-witnessed (s .pre .1 .0 .settings) (s .pre .1 .1 .0) (down .give-up .ensures) (keeps t kept Dead (c .before .enum-told .given .1)), s .pre .1 .1 .1)),
     )
 
-walk-same-length-2 : (t : ℕ) → walk-lts.Need-same-length-2 (told t) (walk-at t) walk.Post
+walk-same-length-2 : (t : ℕ) → walk-lts.Need-same-length-2 (claims t) (walk-at t) walk.Post
 walk-same-length-2 t c = c .before .before .walk .kept .1 .1 .1 .1 .0
 
-walk-returns-2 : (t : ℕ) → walk-lts.Need-returns-2 (told t) (walk-at t) walk.Post
+walk-returns-2 : (t : ℕ) → walk-lts.Need-returns-2 (claims t) (walk-at t) walk.Post
 walk-returns-2 t c =
     let down = c .before .before .before .before .before .before .before .before in
     rw (← (give-to (known t (entry t down)) (down .give-up .ensures))) (c .before .before .walk .ensures)
 
 -- ---- after a live keep
 
-walk-walk-requires-2 : (t : ℕ) → walk-lts.Need-walk-requires-2 (told t) (walk-at t) walk.Post
+walk-walk-requires-2 : (t : ℕ) → walk-lts.Need-walk-requires-2 (claims t) (walk-at t) walk.Post
 walk-walk-requires-2 t c κs =
     let k = c .before .before in
     let down = k .before .before .before .before in
@@ -159,42 +159,42 @@ walk-walk-requires-2 t c κs =
     let live = keeps t (k .before .before) (Live (k .kept .given .0 .0)) (k .kept .given .1) in
     (omega (arith, live .1, fewer t down, down .give-up .ensures .left), (s .pre .1 .0, (live .0, s .pre .1 .1 .1)))
 
-walk-same-length-3 : (t : ℕ) → walk-lts.Need-same-length-3 (told t) (walk-at t) walk.Post
+walk-same-length-3 : (t : ℕ) → walk-lts.Need-same-length-3 (claims t) (walk-at t) walk.Post
 walk-same-length-3 t c = c .before .before .before .walk2 .kept .1 .1 .1 .1 .0
 
-walk-returns-3 : (t : ℕ) → walk-lts.Need-returns-3 (told t) (walk-at t) walk.Post
+walk-returns-3 : (t : ℕ) → walk-lts.Need-returns-3 (claims t) (walk-at t) walk.Post
 walk-returns-3 t c = half-full (half t (c .before .before .before)) (c .if2 .taken)
 
 -- ---- giving up after a live keep
 
-walk-slice-reshare-prefix-enter : (t : ℕ) → walk-lts.Need-slice-reshare-prefix-enter (told t) (walk-at t) walk.Post
+walk-slice-reshare-prefix-enter : (t : ℕ) → walk-lts.Need-slice-reshare-prefix-enter (claims t) (walk-at t) walk.Post
 walk-slice-reshare-prefix-enter t c = omega arith
 
-walk-slice-aggregate-enter : (t : ℕ) → walk-lts.Need-slice-aggregate-enter (told t) (walk-at t) walk.Post
+walk-slice-aggregate-enter : (t : ℕ) → walk-lts.Need-slice-aggregate-enter (claims t) (walk-at t) walk.Post
 walk-slice-aggregate-enter t c =
     let w = c .before .before .before .before .walk2 in
     sym (length-take-le (w .result) (w .last .1 .1 .1 .1 .0) (omega arith))
 
-walk-enter-requires : (t : ℕ) → walk-lts.Need-enter-requires (told t) (walk-at t) walk.Post
+walk-enter-requires : (t : ℕ) → walk-lts.Need-enter-requires (claims t) (walk-at t) walk.Post
 walk-enter-requires t c κs =
     let w = c .before .before .before .before in
     (entry t (w .before .before .before .before .before .before .before) .pre .1 .0, half-reached (half t w) (c .before .if2 .left))
 
-walk-enum-known-live : (t : ℕ) → walk-lts.Need-enum-known-live (told t) (walk-at t) walk.Post
+walk-enum-known-live : (t : ℕ) → walk-lts.Need-enum-known-live (claims t) (walk-at t) walk.Post
 walk-enum-known-live t c = search needs
 
-walk-enum-told-2 : (t : ℕ) → walk-lts.Need-enum-told-2 (told t) (walk-at t) walk.Post
+walk-enum-told-2 : (t : ℕ) → walk-lts.Need-enum-told-2 (claims t) (walk-at t) walk.Post
 walk-enum-told-2 t c = search needs
 
-walk-same-length-4 : (t : ℕ) → walk-lts.Need-same-length-4 (told t) (walk-at t) walk.Post
+walk-same-length-4 : (t : ℕ) → walk-lts.Need-same-length-4 (claims t) (walk-at t) walk.Post
 walk-same-length-4 t c = c .before .before .before .before .before .before .before .walk2 .kept .1 .1 .1 .1 .0
 
-walk-returns-4 : (t : ℕ) → walk-lts.Need-returns-4 (told t) (walk-at t) walk.Post
+walk-returns-4 : (t : ℕ) → walk-lts.Need-returns-4 (claims t) (walk-at t) walk.Post
 walk-returns-4 t c =
     let asked = c .before .before in
     half-dead (half t (asked .before .before .before .before .before)) (enters t asked Dead (c .enum-told2 .given .1))
 
-walk-walk-requires-3 : (t : ℕ) → walk-lts.Need-walk-requires-3 (told t) (walk-at t) walk.Post
+walk-walk-requires-3 : (t : ℕ) → walk-lts.Need-walk-requires-3 (claims t) (walk-at t) walk.Post
 walk-walk-requires-3 t c κs =
     let l = c .before .before in
     let asked = l .before .before in
@@ -202,11 +202,11 @@ walk-walk-requires-3 t c κs =
     let live = enters t asked (Live (l .live .given .0 .0)) (l .live .given .1) in
     (omega (arith, live .1, fewer t down), (entry t down .pre .1 .0, (live .0, asked .before .before .if2 .left)))
 
-walk-same-length-5 : (t : ℕ) → walk-lts.Need-same-length-5 (told t) (walk-at t) walk.Post
+walk-same-length-5 : (t : ℕ) → walk-lts.Need-same-length-5 (claims t) (walk-at t) walk.Post
 walk-same-length-5 t c =
     c .before .before .walk3 .kept .1 .1 .1 .1 .0 ∙ c .before .before .before .before .before .before .before .before .before .before .before .before .walk2 .kept .1 .1 .1 .1 .0
 
-walk-returns-5 : (t : ℕ) → walk-lts.Need-returns-5 (told t) (walk-at t) walk.Post
+walk-returns-5 : (t : ℕ) → walk-lts.Need-returns-5 (claims t) (walk-at t) walk.Post
 walk-returns-5 t c =
     let l = c .before .before .before .before .before in
     let asked = l .before .before in
@@ -214,7 +214,7 @@ walk-returns-5 t c =
     half-on (half t (asked .before .before .before .before .before)) (l .live .given .0 .0) (live .1) (live .2) (c .before .before .walk3 .ensures)
 
 pub +walk-spec : {M : Type 1} → statement M
-+walk-spec = close μ-walk λ t. walk-lts.spec (told t)
++walk-spec = close μ-walk λ t. walk-lts.spec (claims t)
     (walk-at t)
     walk.Post
     (walk-store-requires t)

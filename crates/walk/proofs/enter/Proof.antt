@@ -2,8 +2,8 @@
 use mathlib.Core.Path.{refl, subst}
 use borrow.Author.Needs.{needs}
 use Rattle.setups.specs.Setups.{setup}
-use Rattle.question.specs.Asking.{Says}
-use Rattle.walk.proofs.Branches.{no-way-out}
+use Rattle.question.specs.Question.{Says}
+use Rattle.walk.proofs.Replies.{no-way-out}
 use Rattle.walk.proofs.enter.Statement.{statement}
 use Rattle.walk.proofs.enter.Tie as tie
 

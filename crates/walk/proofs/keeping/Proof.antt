@@ -5,7 +5,7 @@ use borrow.Author.Needs.{needs}
 use native.Mathlib.Omega.{arith}
 use Rattle.setups.specs.Setups.{setup}
 use Rattle.walk.specs.Walking.{Enters}
-use Rattle.walk.proofs.Steps.{keep-reached, keep-stands}
+use Rattle.walk.proofs.NodeSteps.{keep-reached, keep-witnessed}
 use Rattle.walk.proofs.keeping.Statement.{statement}
 use Rattle.walk.proofs.keeping.Tie as tie
 
@@ -19,7 +19,7 @@ returns : tie.Need-returns
 returns c =
     let kept = c .before .before .keep in
     let s = c .before .before .before .before .before .before in (
-      keep-stands (s .pre .0 .settings) (s .pre .1 .0) (kept .ensures) (c .before .has .ensures .0 (c .if1 .taken)),
+      keep-witnessed (s .pre .0 .settings) (s .pre .1 .0) (kept .ensures) (c .before .has .ensures .0 (c .if1 .taken)),
       omega (arith, kept .ensures .left),
       kept .ensures .given,
     )

@@ -2,12 +2,12 @@
 use borrow.Author.Needs.{needs}
 use borrow.Author.Tests.{not-false}
 use Rattle.numbers.proofs.Deciding.{T-true}
-use Rattle.forcing.proofs.StepLaws.{step-none, ends-false, ends-one}
+use Rattle.forcing.proofs.RuleLaws.{answers-still, ends-false, ends-one}
 use Rattle.forcing.proofs.forcing.end_clause.Statement.{statement}
 use Rattle.forcing.proofs.forcing.end_clause.Tie as tie
 
 returns : tie.Need-returns
-returns c = step-none _ _ (c .before .pre .0)
+returns c = answers-still _ _ (c .before .pre .0)
 
 enum-told : tie.Need-enum-told
 enum-told c = search needs
@@ -36,7 +36,7 @@ returns-3 c =
     (c .before .before .seen .given .1) (enters .before .pre .1))
 
 returns-4 : tie.Need-returns-4
-returns-4 c = step-none _ _ (c .before .before .before .before .pre .0)
+returns-4 c = answers-still _ _ (c .before .before .before .before .pre .0)
 
 pub end-clause-spec : {M : Type 1} → statement M
 end-clause-spec =

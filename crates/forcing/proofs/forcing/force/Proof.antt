@@ -6,7 +6,7 @@ use native.Mathlib.Omega.{arith}
 use borrow.Author.Needs.{needs}
 use lib.ListN.{length}
 use Rattle.numbers.specs.declared.Selector.{Selector}
-use Rattle.forcing.proofs.Passes.{Forcing, forcing-starts, forcing-reads, forcing-fails, forcing-ends}
+use Rattle.forcing.proofs.ForcingLaws.{Forcing, forcing-starts, forcing-reads, forcing-fails, forcing-ends}
 use Rattle.forcing.proofs.forcing.force.Statement.{statement}
 use Rattle.forcing.proofs.forcing.force.Tie as tie
 
@@ -34,14 +34,14 @@ returns c =
     forcing-fails _ _ _ _ _ _ _ (inside .before .loop .inv) (inside .loop-test .taken) (c .before .before .before .if1 .taken) _
     (c .before .before .owes .ensures) _ (c .before .end-clause .ensures)
 
-after-requires : tie.Need-after-requires Inv-loop μ-loop
-after-requires c κs = search needs
+next-selector-requires : tie.Need-next-selector-requires Inv-loop μ-loop
+next-selector-requires c κs = search needs
 
-place-requires : tie.Need-place-requires Inv-loop μ-loop
-place-requires c κs = search needs
+slot-requires : tie.Need-slot-requires Inv-loop μ-loop
+slot-requires c κs = search needs
 
 array-read-see : tie.Need-array-read-see Inv-loop μ-loop
-array-read-see c = omega (arith, c .place .ensures)
+array-read-see c = omega (arith, c .slot .ensures)
 
 see-requires : tie.Need-see-requires Inv-loop μ-loop
 see-requires c κs = search needs
@@ -78,8 +78,8 @@ force-spec =
     owes-requires
     end-clause-requires
     returns
-    after-requires
-    place-requires
+    next-selector-requires
+    slot-requires
     array-read-see
     see-requires
     add-i

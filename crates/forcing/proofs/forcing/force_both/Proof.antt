@@ -1,8 +1,8 @@
 -- `forcing::force_both` meets its contract: one pass after the other.
 use mathlib.Core.Path.{ap}
 use borrow.Author.Needs.{needs}
-use Rattle.forcing.specs.declared.forcing.Forced.{Forced}
-use Rattle.forcing.proofs.Passes.{both-first, both-second}
+use Rattle.forcing.specs.declared.forcing.Progress.{Progress}
+use Rattle.forcing.proofs.ForcingLaws.{both-first, both-second}
 use Rattle.forcing.proofs.forcing.force_both.Statement.{statement}
 use Rattle.forcing.proofs.forcing.force_both.Tie as tie
 
@@ -10,7 +10,7 @@ start-requires : tie.Need-start-requires
 start-requires c κs = search needs
 
 force-requires : tie.Need-force-requires
-force-requires c κs = ap (λ (x : Forced). x .fails) (c .start .ensures)
+force-requires c κs = ap (λ (x : Progress). x .fails) (c .start .ensures)
 
 returns : tie.Need-returns
 returns c = both-first _ _ _ _ _ (rw (c .before .before .start .ensures) at (c .before .force .ensures))

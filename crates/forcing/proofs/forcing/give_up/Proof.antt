@@ -6,8 +6,9 @@ use native.Mathlib.Omega.{arith}
 use borrow.Author.Needs.{needs}
 use lib.ListN.{length}
 use Rattle.numbers.specs.declared.Selector.{Selector}
-use Rattle.forcing.specs.declared.forcing.Forced.{Forced}
-use Rattle.forcing.proofs.Passes.{Giving, giving-starts, giving-ends, giving-reads, giving-denies, giving-on}
+use Rattle.setups.specs.Limits.{settingsMost}
+use Rattle.forcing.specs.declared.forcing.Progress.{Progress}
+use Rattle.forcing.proofs.ForcingLaws.{Giving, giving-starts, giving-ends, giving-reads, giving-denies, giving-on}
 use Rattle.forcing.proofs.forcing.give_up.Statement.{statement}
 use Rattle.forcing.proofs.forcing.give_up.Tie as tie
 
@@ -21,16 +22,16 @@ start-requires : tie.Need-start-requires Inv-loop μ-loop
 start-requires c κs = search needs
 
 loop-holds : tie.Need-loop-holds Inv-loop μ-loop
-loop-holds c = giving-starts _ _ _ _ (ap (λ (x : Forced). x .fails) (c .start .ensures)) refl
+loop-holds c = giving-starts _ _ _ _ (ap (λ (x : Progress). x .fails) (c .start .ensures)) refl
 
 shared-slice-read-byte : tie.Need-shared-slice-read-byte Inv-loop μ-loop
 shared-slice-read-byte c = search needs
 
-after-requires : tie.Need-after-requires Inv-loop μ-loop
-after-requires c κs = search needs
+next-selector-requires : tie.Need-next-selector-requires Inv-loop μ-loop
+next-selector-requires c κs = search needs
 
-chosen-requires : tie.Need-chosen-requires Inv-loop μ-loop
-chosen-requires c κs = search needs
+has-selector-requires : tie.Need-has-selector-requires Inv-loop μ-loop
+has-selector-requires c κs = search needs
 
 deny-requires : tie.Need-deny-requires Inv-loop μ-loop
 deny-requires c κs = search needs
@@ -40,11 +41,11 @@ returns c =
     let inside = c .before .before .before .before .before .before in
     let start = inside .before .before in
     let enters = start .before .before in
-    let small : enters .args .given < 2 ^ 32 = omega (arith, enters .fits .given) in
+    let small : enters .args .given < 2 ^ settingsMost = omega (arith, enters .fits .given) in
     rw (← start .start .ensures)
     (giving-denies _ _ _ _ _ _ (inside .before .loop .inv) (inside .loop-test .taken) (c .before .before .before .before .if1 .left)
     small (enters .pre)
-    (c .before .before .before .chosen .ensures .0 (c .before .before .if2 .taken)) _ (c .before .deny .ensures))
+    (c .before .before .before .has-selector .ensures .0 (c .before .before .if2 .taken)) _ (c .before .deny .ensures))
 
 add-i : tie.Need-add-i Inv-loop μ-loop
 add-i c = search needs
@@ -58,7 +59,7 @@ loop-again c =
     let at = inside .before .loop in
     let l = inside .loop-test .taken in
     let enters = inside .before .before .before .before in
-    let small : enters .args .given < 2 ^ 32 = omega (arith, enters .fits .given) in
+    let small : enters .args .given < 2 ^ settingsMost = omega (arith, enters .fits .given) in
     ⊎-elim
     (λ w. rw (w .2) (giving-ends _ _ _ _ _ _ (at .inv) l (w .0 .taken) _ (ap (λ (x : Selector). x .0) (w .3) ∙ w .1 .ensures)))
     (⊎-elim
@@ -79,8 +80,8 @@ give-up-spec =
     start-requires
     loop-holds
     shared-slice-read-byte
-    after-requires
-    chosen-requires
+    next-selector-requires
+    has-selector-requires
     deny-requires
     returns
     add-i

@@ -29,11 +29,11 @@ returns c =
     meeting-fails _ _ (at .chance) (at .i) (at .inv) (inside .loop-test .taken) (c .before .before .if1 .taken)
     (not-true (at .chance .sure) (c .if2 .taken))
 
-place-requires : tie.Need-place-requires Inv-loop μ-loop
-place-requires c κs = search needs
+slot-requires : tie.Need-slot-requires Inv-loop μ-loop
+slot-requires c κs = search needs
 
 array-read-look : tie.Need-array-read-look Inv-loop μ-loop
-array-read-look c = omega (arith, c .place .ensures)
+array-read-look c = omega (arith, c .slot .ensures)
 
 look-requires : tie.Need-look-requires Inv-loop μ-loop
 look-requires c κs = search needs
@@ -67,7 +67,7 @@ met-spec =
     loop-holds
     shared-slice-read-byte
     returns
-    place-requires
+    slot-requires
     array-read-look
     look-requires
     add-i

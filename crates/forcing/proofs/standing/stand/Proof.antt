@@ -29,14 +29,14 @@ added-requires c κs = search needs
 added-requires-2 : tie.Need-added-requires-2 Inv-loop μ-loop
 added-requires-2 c κs = search needs
 
-after-requires : tie.Need-after-requires Inv-loop μ-loop
-after-requires c κs = search needs
+next-selector-requires : tie.Need-next-selector-requires Inv-loop μ-loop
+next-selector-requires c κs = search needs
 
-place-requires : tie.Need-place-requires Inv-loop μ-loop
-place-requires c κs = search needs
+slot-requires : tie.Need-slot-requires Inv-loop μ-loop
+slot-requires c κs = search needs
 
 array-read-look : tie.Need-array-read-look Inv-loop μ-loop
-array-read-look c = omega (arith, c .place .ensures)
+array-read-look c = omega (arith, c .slot .ensures)
 
 look-requires : tie.Need-look-requires Inv-loop μ-loop
 look-requires c κs = search needs
@@ -72,8 +72,8 @@ stand-spec =
     shared-slice-read-byte
     added-requires
     added-requires-2
-    after-requires
-    place-requires
+    next-selector-requires
+    slot-requires
     array-read-look
     look-requires
     add-i

@@ -2,6 +2,7 @@
 use mathlib.Core.Logic.{⊎-elim}
 use Prim.Native.Nat.{_-_}
 use borrow.Author.Needs.{needs}
+use Rattle.setups.specs.Limits.{variablesMost}
 use Rattle.forcing.proofs.ValueLaws.{Completing, completing-starts, completing-skips, completing-sets, completing-done}
 use Rattle.forcing.proofs.values.complete.Statement.{statement}
 use Rattle.forcing.proofs.values.complete.Tie as tie
@@ -10,7 +11,7 @@ abbrev Inv-loop : tie.InvT-loop
 Inv-loop model₀ i₀ model i = Completing model₀ model i
 
 abbrev μ-loop : tie.MeasureT-loop
-μ-loop model₀ i₀ model i = 64 - i
+μ-loop model₀ i₀ model i = variablesMost - i
 
 loop-holds : tie.Need-loop-holds Inv-loop μ-loop
 loop-holds c = completing-starts _ (search needs)

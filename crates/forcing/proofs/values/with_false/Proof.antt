@@ -5,8 +5,8 @@ use Rattle.setups.proofs.Settling.{wish-small}
 use Rattle.forcing.proofs.values.with_false.Statement.{statement}
 use Rattle.forcing.proofs.values.with_false.Tie as tie
 
-place-requires : tie.Need-place-requires
-place-requires c κs = search needs
+slot-requires : tie.Need-slot-requires
+slot-requires c κs = search needs
 
 wish-requires : tie.Need-wish-requires
 wish-requires c κs = search needs
@@ -18,7 +18,7 @@ array-write-changed : tie.Need-array-write-changed
 array-write-changed c = search needs
 
 returns : tie.Need-returns
-returns c = rw (c .before .place .ensures, c .wish .ensures)
+returns c = rw (c .before .slot .ensures, c .wish .ensures)
 
 pub with-false-spec : {M : Type 1} → statement M
-with-false-spec = tie.close (tie.spec place-requires wish-requires sub-changed array-write-changed returns)
+with-false-spec = tie.close (tie.spec slot-requires wish-requires sub-changed array-write-changed returns)

@@ -3,8 +3,8 @@ use borrow.Author.Needs.{needs}
 use Rattle.forcing.proofs.values.with_true.Statement.{statement}
 use Rattle.forcing.proofs.values.with_true.Tie as tie
 
-place-requires : tie.Need-place-requires
-place-requires c κs = search needs
+slot-requires : tie.Need-slot-requires
+slot-requires c κs = search needs
 
 wish-requires : tie.Need-wish-requires
 wish-requires c κs = search needs
@@ -13,7 +13,7 @@ array-write-changed : tie.Need-array-write-changed
 array-write-changed c = search needs
 
 returns : tie.Need-returns
-returns c = rw (c .before .place .ensures, c .wish .ensures)
+returns c = rw (c .before .slot .ensures, c .wish .ensures)
 
 pub with-true-spec : {M : Type 1} → statement M
-with-true-spec = tie.close (tie.spec place-requires wish-requires array-write-changed returns)
+with-true-spec = tie.close (tie.spec slot-requires wish-requires array-write-changed returns)

@@ -6,10 +6,13 @@ use Rattle.question.proofs.choosing.pick.Statement.{statement}
 use Rattle.question.proofs.choosing.pick.Tie as tie
 
 abbrev Inv-loop : tie.InvT-loop
-Inv-loop owed clauses values untouched₀ clause₀ selector₀ i₀ untouched clause selector i = i ≤ length clauses
+Inv-loop owed clauses values untouched₀ selector₀ unmet₀ touched₀ free₀ i₀ untouched selector unmet touched free i = i ≤ length clauses
 
 abbrev μ-loop : tie.MeasureT-loop
-μ-loop owed clauses values untouched₀ clause₀ selector₀ i₀ untouched clause selector i = length clauses - i
+μ-loop owed clauses values untouched₀ selector₀ unmet₀ touched₀ free₀ i₀ untouched selector unmet touched free i = length clauses - i
+
+owes-requires : tie.Need-owes-requires Inv-loop μ-loop
+owes-requires c κs = search needs
 
 loop-holds : tie.Need-loop-holds Inv-loop μ-loop
 loop-holds c = search needs
@@ -17,29 +20,32 @@ loop-holds c = search needs
 shared-slice-read-byte : tie.Need-shared-slice-read-byte Inv-loop μ-loop
 shared-slice-read-byte c = search needs
 
-owes-requires : tie.Need-owes-requires Inv-loop μ-loop
-owes-requires c κs = search needs
-
-open-literal-requires : tie.Need-open-literal-requires Inv-loop μ-loop
-open-literal-requires c κs = search needs
+enum-known-free : tie.Need-enum-known-free Inv-loop μ-loop
+enum-known-free c = search needs
 
 returns : tie.Need-returns Inv-loop μ-loop
 returns c = search needs
 
-earlier-requires : tie.Need-earlier-requires Inv-loop μ-loop
-earlier-requires c κs = search needs
+or-later-requires : tie.Need-or-later-requires Inv-loop μ-loop
+or-later-requires c κs = search needs
 
-after-requires : tie.Need-after-requires Inv-loop μ-loop
-after-requires c κs = search needs
+enum-told : tie.Need-enum-told Inv-loop μ-loop
+enum-told c = search needs
 
-place-requires : tie.Need-place-requires Inv-loop μ-loop
-place-requires c κs = search needs
+next-selector-requires : tie.Need-next-selector-requires Inv-loop μ-loop
+next-selector-requires c κs = search needs
 
-array-read-look : tie.Need-array-read-look Inv-loop μ-loop
-array-read-look c = search needs
+owes-requires-2 : tie.Need-owes-requires-2 Inv-loop μ-loop
+owes-requires-2 c κs = search needs
 
-look-requires : tie.Need-look-requires Inv-loop μ-loop
-look-requires c κs = search needs
+slot-requires : tie.Need-slot-requires Inv-loop μ-loop
+slot-requires c κs = search needs
+
+array-read-value : tie.Need-array-read-value Inv-loop μ-loop
+array-read-value c = search needs
+
+wish-requires : tie.Need-wish-requires Inv-loop μ-loop
+wish-requires c κs = search needs
 
 add-i : tie.Need-add-i Inv-loop μ-loop
 add-i c = search needs
@@ -59,16 +65,18 @@ pick-spec =
     (tie.spec
     Inv-loop
     μ-loop
+    owes-requires
     loop-holds
     shared-slice-read-byte
-    owes-requires
-    open-literal-requires
+    enum-known-free
     returns
-    earlier-requires
-    after-requires
-    place-requires
-    array-read-look
-    look-requires
+    or-later-requires
+    enum-told
+    next-selector-requires
+    owes-requires-2
+    slot-requires
+    array-read-value
+    wish-requires
     add-i
     loop-less
     loop-again

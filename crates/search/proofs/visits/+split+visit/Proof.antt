@@ -1,20 +1,23 @@
 -- `visits::visit` and `visits::split` meet their contracts. The free values fall around the cycle: a settled visit has no more of them
 -- than it began with, and each side of a split has one fewer.
-use mathlib.Core.Path.{_≡_, sym, ap, _∙_}
+use mathlib.Core.Path.{_≡_, sym, ap, _∙_, subst}
 use Prim.Native.Nat.{ℕ, _+_, _-_, _*_, _≤_, _<_}
 use native.Mathlib.Omega.{arith}
 use borrow.Author.Needs.{needs}
 use borrow.Fn.Kinds.{In}
 use borrow.Fn.PlainCycle.{Measures, is, falls, and}
 use lib.ListN.{length, getD, set}
+use Rattle.setups.specs.Limits.{variablesMost}
 use Rattle.setups.specs.Searching as searching
 use Rattle.numbers.proofs.value_place.Reads as value-place-reads
 use Rattle.setups.proofs.Settling.{free-inside}
+use Rattle.literals.specs.Slots.{TellsFree}
+use Rattle.literals.specs.declared.FirstFree.the-variants.{At}
 use Rattle.literals.proofs.lowest_free.Reads as lowest-free-reads
 use Rattle.scans.specs.Scans.{clausesOf}
 use Rattle.search.specs.Told.{told}
 use Rattle.search.proofs.Telling.{model-not-none, spent-not-none, first-tells, second-tells}
-use Rattle.search.proofs.VisitLaws.{lowest-free, sides-fewer, visit-spent, visit-fails, visit-models, visit-splits, visit-fewer}
+use Rattle.search.proofs.VisitLaws.{sides-fewer, visit-told-spent, visit-told-none, visit-told-model, visit-told-split, visit-fewer}
 use Rattle.search.proofs.visits.split.Reads as split
 use Rattle.search.proofs.visits.split.Kinds as split-kinds
 use Rattle.search.proofs.visits.+split+visit.Lts-split as split-lts
@@ -67,10 +70,10 @@ split-value-place-requires t c κs = search needs
 split-place :
     (t : ℕ) (c : split-lts.After-value-place (split-calls t) (split-at t) split.Post) →
     let start = c .before .before .before .before .args in
-    (c .value-place .result ≡ start .variable .0 - 1) × (c .value-place .result < 64)
+    (c .value-place .result ≡ start .variable .0 - 1) × (c .value-place .result < variablesMost)
 split-place t c =
     let start = c .before .before .before .before in
-    let n : length (start .args .values) ≡ 64 = search needs in
+    let n : length (start .args .values) ≡ variablesMost = search needs in
     let free = free-inside (start .args .values) (start .args .variable .0 - 1) (start .pre .1 .1 .1) in
     let e : c .value-place .result ≡ start .args .variable .0 - 1 = omega (arith, c .value-place .ensures, start .pre .1 .1 .0) in
     (e, omega arith)
@@ -147,7 +150,7 @@ visit-without-model-requires t c κs = search needs
 visit-returns : (t : ℕ) → visit-lts.Need-returns (visit-calls t) (visit-at t) visit.Post
 visit-returns t c =
     let start = c .before .before .before .before .before in
-    c .without-model .ensures ∙ visit-spent (start .args .budget) (start .args .used) _ _ (omega arith)
+    c .without-model .ensures ∙ visit-told-spent (start .args .budget) (start .args .used) _ _ (omega arith)
 
 visit-add-count : (t : ℕ) → visit-lts.Need-add-count (visit-calls t) (visit-at t) visit.Post
 visit-add-count t c = omega arith
@@ -162,52 +165,49 @@ visit-returns-2 : (t : ℕ) → visit-lts.Need-returns-2 (visit-calls t) (visit-
 visit-returns-2 t c =
     let settled = c .before .before in
     c .without-model2 .ensures
-    ∙ visit-fails _ _ _ _ (settled .before .if1 .left) (settled .settle .result) (settled .settle .ensures) (c .before .if2 .taken)
+    ∙ visit-told-none _ _ _ _ (settled .before .if1 .left) (settled .settle .result) (settled .settle .ensures) (c .before .if2 .taken)
 
 visit-lowest-free-requires : (t : ℕ) → visit-lts.Need-lowest-free-requires (visit-calls t) (visit-at t) visit.Post
 visit-lowest-free-requires t c κs = search needs
 
-visit-cast-if3 : (t : ℕ) → visit-lts.Need-cast-if3 (visit-calls t) (visit-at t) visit.Post
-visit-cast-if3 t c = search needs
+visit-enum-told : (t : ℕ) → visit-lts.Need-enum-told (visit-calls t) (visit-at t) visit.Post
+visit-enum-told t c = search needs
 
-visit-returns-3 : (t : ℕ) → visit-lts.Need-returns-3 (visit-calls t) (visit-at t) visit.Post
-visit-returns-3 t c =
-    let lowest = c .before .before in
-    let settled = lowest .before .before .before in
-    let n : length (settled .settle .result .values) ≡ 64 = search needs in
-    visit-models _ _ _ _ (settled .before .if1 .left) (settled .settle .result) (settled .settle .ensures) (lowest .before .before .if2 .left)
-    (omega (arith, lowest .lowest-free .ensures, c .if3 .taken))
+visit-enum-known-variable : (t : ℕ) → visit-lts.Need-enum-known-variable (visit-calls t) (visit-at t) visit.Post
+visit-enum-known-variable t c = search needs
 
 -- the variable that a visit splits on
 splits-on :
-    (t : ℕ) (c : visit-lts.Else3 (visit-calls t) (visit-at t) visit.Post) →
-    let lowest = c .before .before in
-    let end = lowest .before .before .before .settle .result .values in
-    let variable = lowest .lowest-free .result .0 in
-    (0 < variable) × (2 ≤ getD end (variable - 1) 0) × (variable - 1 ≡ searching.lowestFree end)
+    (t : ℕ) (c : visit-lts.After-known-told (visit-calls t) (visit-at t) visit.Post) →
+    TellsFree (c .before .before .before .before .before .before .settle .result .values) (At (c .before .variable .given .0 .0))
 splits-on t c =
-    let lowest = c .before .before in
-    let end = lowest .before .before .before .settle .result .values in
-    let n : length end ≡ 64 = search needs in
-    let e : lowest .lowest-free .result .0 - 1 ≡ searching.lowestFree end = omega (arith, lowest .lowest-free .ensures) in
-    (omega (arith, lowest .lowest-free .ensures), rw e (lowest-free end (λ e. let b : ⊥ = omega (arith, lowest .lowest-free .ensures, c .if3 .left) in b)), e)
+    let free = c .before .before .before in
+    subst (TellsFree (free .before .before .before .settle .result .values)) (c .before .variable .given .1) (free .lowest-free .ensures)
 
 visit-split-requires : (t : ℕ) → visit-lts.Need-split-requires (visit-calls t) (visit-at t) visit.Post
 visit-split-requires t c κs =
-    let settled = c .before .before .before .before .before in
+    let settled = c .before .before .before .before .before .before in
     let start = settled .before .before .before .before .before in
     let fewer = visit-fewer _ _ _ _ (settled .before .if1 .left) (settled .settle .result) (settled .settle .ensures) in
     let on = splits-on t c in
-    (omega arith, (start .pre .1, (on .0, on .1)))
+    let e : c .before .variable .given .0 .0 .0 - 1 ≡ on .0 = omega (arith, on .1) in
+    (omega arith, (start .pre .1, (omega (arith, on .1), rw e (on .2 .free))))
+
+visit-returns-3 : (t : ℕ) → visit-lts.Need-returns-3 (visit-calls t) (visit-at t) visit.Post
+visit-returns-3 t c =
+    let free = c .before .before in
+    let settled = free .before .before .before in
+    visit-told-model _ _ _ _ (settled .before .if1 .left) (settled .settle .result) (settled .settle .ensures) (free .before .before .if2 .left)
+    (subst (TellsFree (settled .settle .result .values)) (c .enum-told .given .1) (free .lowest-free .ensures))
 
 visit-returns-4 : (t : ℕ) → visit-lts.Need-returns-4 (visit-calls t) (visit-at t) visit.Post
 visit-returns-4 t c =
-    let lowest = c .before .before .before in
-    let settled = lowest .before .before .before in
+    let settled = c .before .before .before .before .before .before .before in
     let on = splits-on t (c .before) in
+    let e : c .before .before .variable .given .0 .0 .0 - 1 ≡ on .0 = omega (arith, on .1) in
     c .split .ensures
-    ∙ visit-splits _ _ _ _ (settled .before .if1 .left) (settled .settle .result) (settled .settle .ensures) (lowest .before .before .if2 .left)
-    (lowest .lowest-free .result .0 - 1) (on .2) (free-inside (settled .settle .result .values) (lowest .lowest-free .result .0 - 1) (on .1))
+    ∙ visit-told-split _ _ _ _ (settled .before .if1 .left) (settled .settle .result) (settled .settle .ensures)
+    (c .before .before .before .before .before .before .if2 .left) (c .before .before .variable .given .0 .0 .0 - 1) (rw e (on .2))
 
 pub +split+visit-spec : {M : Type 1} → statement M
 +split+visit-spec =
@@ -240,7 +240,8 @@ pub +split+visit-spec : {M : Type 1} → statement M
     (visit-without-model-requires-2 t)
     (visit-returns-2 t)
     (visit-lowest-free-requires t)
-    (visit-cast-if3 t)
-    (visit-returns-3 t)
+    (visit-enum-told t)
+    (visit-enum-known-variable t)
     (visit-split-requires t)
+    (visit-returns-3 t)
     (visit-returns-4 t)

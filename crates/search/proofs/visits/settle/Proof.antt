@@ -7,7 +7,7 @@ use Rattle.setups.specs.Searching.{freeCount, settle}
 use Rattle.setups.proofs.Visits.{settle-fails, settle-stops}
 use Rattle.scans.specs.Scans.{clausesOf}
 use Rattle.search.specs.Told.{settledOf}
-use Rattle.search.proofs.VisitLaws.{scan-seen, Turned, forced-turn}
+use Rattle.search.proofs.VisitLaws.{scan-seen, ForcedOnce, forced-once}
 use Rattle.search.proofs.visits.settle.Statement.{statement}
 use Rattle.search.proofs.visits.settle.Tie as tie
 
@@ -44,34 +44,34 @@ returns-2 c =
 enum-known-seen : tie.Need-enum-known-seen Inv-loop μ-loop
 enum-known-seen c = search needs
 
-place-requires : tie.Need-place-requires Inv-loop μ-loop
-place-requires c κs = search needs
+slot-requires : tie.Need-slot-requires Inv-loop μ-loop
+slot-requires c κs = search needs
 
 wish-requires : tie.Need-wish-requires Inv-loop μ-loop
 wish-requires c κs = search needs
 
 array-write-values : tie.Need-array-write-values Inv-loop μ-loop
-array-write-values c = omega (arith, c .before .place .ensures)
+array-write-values c = omega (arith, c .before .slot .ensures)
 
 -- the turn that sets a forced value
-turned :
+forced :
     (c : tie.After-wish Inv-loop μ-loop) →
     let at = c .before .before .before .before .before .before in
     let start = at .before .before .before .before in
-    Turned (clausesOf (start .args .first .now) (start .args .second .now) (start .args .assumed .now)) (at .loop .values)
-    (set (at .loop .values) (c .before .place .result) (c .wish .result))
-turned c =
+    ForcedOnce (clausesOf (start .args .first .now) (start .args .second .now) (start .args .assumed .now)) (at .loop .values)
+    (set (at .loop .values) (c .before .slot .result) (c .wish .result))
+forced c =
     let known = c .before .before .before in
     let scan = known .before .before in
     let start = scan .before .before .before .before .before in
-    forced-turn _ _ _ _ _ (c .before .place .result) (c .wish .result) (start .pre)
-    (sym (scan-seen _ _ (scan .scan-all .result) (scan .scan-all .ensures)) ∙ known .seen .given .1) (c .before .place .ensures) (c .wish .ensures)
+    forced-once _ _ _ _ _ (c .before .slot .result) (c .wish .result) (start .pre)
+    (sym (scan-seen _ _ (scan .scan-all .result) (scan .scan-all .ensures)) ∙ known .seen .given .1) (c .before .slot .ensures) (c .wish .ensures)
 
 loop-less : tie.Need-loop-less Inv-loop μ-loop
-loop-less c = turned c .fewer
+loop-less c = forced c .fewer
 
 loop-again : tie.Need-loop-again Inv-loop μ-loop
-loop-again c = turned c .same ∙ c .before .before .before .before .before .before .loop .inv
+loop-again c = forced c .same ∙ c .before .before .before .before .before .before .loop .inv
 
 pub settle-spec : {M : Type 1} → statement M
 settle-spec =
@@ -86,7 +86,7 @@ settle-spec =
     enum-told-2
     returns-2
     enum-known-seen
-    place-requires
+    slot-requires
     wish-requires
     array-write-values
     loop-less

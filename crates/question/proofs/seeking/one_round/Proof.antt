@@ -1,22 +1,23 @@
--- `searching::one_round` meets its contract: no rule loses an answer.
+-- `seeking::one_round` meets its contract: no rule loses an answer.
 use Prim.Native.Nat.{_<_, _^_}
 use native.Mathlib.Omega.{arith}
 use borrow.Author.Needs.{needs}
-use Rattle.forcing.specs.Tests.{isTrue}
-use Rattle.forcing.specs.Steps.{Step, unmoved}
-use Rattle.question.specs.Searches.{Asked}
-use Rattle.question.proofs.Rounds.{asked-step, settles-stuck, settles-dead, settles-same, settles-wider}
-use Rattle.question.proofs.searching.one_round.Statement.{statement}
-use Rattle.question.proofs.searching.one_round.Tie as tie
+use Rattle.setups.specs.Limits.{settingsMost}
+use Rattle.forcing.specs.Holding.{isTrue}
+use Rattle.forcing.specs.Rules.{KeepsAnswers, unmoved}
+use Rattle.question.specs.Seeking.{Fulfils}
+use Rattle.question.proofs.Rounds.{fulfils-step, advances-stuck, advances-dead, advances-same, advances-wider}
+use Rattle.question.proofs.seeking.one_round.Statement.{statement}
+use Rattle.question.proofs.seeking.one_round.Tie as tie
 
 -- after both passes
 by-force : (c : tie.After-force-both) →
     let a = c .before .before .before .before .args in
-    Step (λ m. Asked (a .kept) (a .hard .now) (a .soft .now) (a .found .now) (isTrue m)) (unmoved (a .values)) (c .force-both .result)
+    KeepsAnswers (λ m. Fulfils (a .kept) (a .hard .now) (a .soft .now) (a .found .now) (isTrue m)) (unmoved (a .values)) (c .force-both .result)
 by-force c =
     let enters = c .before .before .before .before in
-    let small : enters .args .kept < 2 ^ 32 = omega (arith, enters .fits .kept) in
-    asked-step _ _ _ _ _ _ small (c .force-both .ensures)
+    let small : enters .args .kept < 2 ^ settingsMost = omega (arith, enters .fits .kept) in
+    fulfils-step _ _ _ _ _ _ small (c .force-both .ensures)
 
 force-both-requires : tie.Need-force-both-requires
 force-both-requires c κs = search needs
@@ -25,7 +26,7 @@ failed-requires : tie.Need-failed-requires
 failed-requires c κs = search needs
 
 returns : tie.Need-returns
-returns c = rw (c .failed .ensures) (settles-stuck _ _ _ _ _ _ (by-force (c .before .before .before)) (c .before .if1 .taken))
+returns c = rw (c .failed .ensures) (advances-stuck _ _ _ _ _ _ (by-force (c .before .before .before)) (c .before .if1 .taken))
 
 stand-requires : tie.Need-stand-requires
 stand-requires c κs = search needs
@@ -40,21 +41,21 @@ returns-2 : tie.Need-returns-2
 returns-2 c =
     let stand = c .before .before .before in
     rw (c .failed2 .ensures)
-    (settles-dead _ _ _ _ _ _ (by-force (stand .before .before .before)) _ (stand .stand .ensures) _ (c .before .before .narrow .ensures)
+    (advances-dead _ _ _ _ _ _ (by-force (stand .before .before .before)) _ (stand .stand .ensures) _ (c .before .before .narrow .ensures)
     (c .before .if2 .taken))
 
 returns-3 : tie.Need-returns-3
 returns-3 c =
     let narrow = c .before .before .before in
     let stand = narrow .before in
-    settles-same _ _ _ _ _ _ (by-force (stand .before .before .before)) _ (stand .stand .ensures) _ (narrow .narrow .ensures)
+    advances-same _ _ _ _ _ _ (by-force (stand .before .before .before)) _ (stand .stand .ensures) _ (narrow .narrow .ensures)
     (c .if3 .taken)
 
 returns-4 : tie.Need-returns-4
 returns-4 c =
     let narrow = c .before .before .before in
     let stand = narrow .before in
-    settles-wider _ _ _ _ _ _ (by-force (stand .before .before .before)) _ (stand .stand .ensures) _ (narrow .narrow .ensures)
+    advances-wider _ _ _ _ _ _ (by-force (stand .before .before .before)) _ (stand .stand .ensures) _ (narrow .narrow .ensures)
     (c .if3 .left)
 
 pub one-round-spec : {M : Type 1} → statement M

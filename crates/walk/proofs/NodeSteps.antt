@@ -10,21 +10,21 @@ use Rattle.sets.proofs.Digits.{only-in, joins-only}
 use Rattle.setups.specs.Limits.{settingsMost}
 use Rattle.setups.specs.Setups.{Setup, count, SettingTrue, WayOut}
 use Rattle.walk.specs.declared.Node.{Node}
-use Rattle.walk.specs.Walking.{Decided, Keeps, GivesUp, Below, Between, Reached, Stands}
+use Rattle.walk.specs.Walking.{AboveDecided, KeepsHighest, GivesUpHighest, Below, WayOutBetween, Reached, Witnessed}
 use Rattle.walk.proofs.Nodes.{not-given, not-kept, keep-decided, give-decided}
-use Rattle.walk.proofs.Branches.{some-way-out}
-use Rattle.walk.proofs.Growing.{below-skip}
+use Rattle.walk.proofs.Replies.{some-way-out}
+use Rattle.walk.proofs.WaysBelow.{below-skip}
 
 -- what every step knows of its setup and its node
 pub record Known (g : Setup) (node : Node) : Type 0 where
   pub most : count g ≤ settingsMost
-  pub decided : Decided (count g) (node .left) (node .given) (node .kept)
+  pub decided : AboveDecided (count g) (node .left) (node .given) (node .kept)
 
 module _ {g : Setup} {node : Node} (s : Known g node) where
   -- the node has the setting at place i left
   module _ (i : ℕ) (e : suc i ≡ node .left) where
-    open-below : Decided (count g) (suc i) (node .given) (node .kept)
-    open-below = subst (λ (x : ℕ). Decided (count g) x (node .given) (node .kept)) (sym e) (s .decided)
+    open-below : AboveDecided (count g) (suc i) (node .given) (node .kept)
+    open-below = subst (λ (x : ℕ). AboveDecided (count g) x (node .given) (node .kept)) (sym e) (s .decided)
 
     -- a set that lacks it, joined with it
     joined : (S Q : ℕ) → ¬ In i S → Joins S (only settingsMost (node .left)) Q → Q ≡ S + 2 ^ i
@@ -33,11 +33,11 @@ module _ {g : Setup} {node : Node} (s : Known g node) where
 
   -- ---- it is kept
 
-  module _ {next : Node} (k : Keeps node next) where
+  module _ {next : Node} (k : KeepsHighest node next) where
     pub keep-reached : {found : List ℕ} → Below g (node .given) found → Reached g next found
     keep-reached b = record { decided = rw (k .given, kept) (keep-decided (count g) (next .left) (node .given) (node .kept) below); before = rw (k .given) b }
       where
-        below : Decided (count g) (suc (next .left)) (node .given) (node .kept)
+        below : AboveDecided (count g) (suc (next .left)) (node .given) (node .kept)
         below = open-below (next .left) (k .left)
 
         kept : next .kept ≡ node .kept + 2 ^ next .left
@@ -45,8 +45,8 @@ module _ {g : Setup} {node : Node} (s : Known g node) where
 
   -- ---- it is given up
 
-  module _ {next : Node} (k : GivesUp node next) where
-    below : Decided (count g) (suc (next .left)) (node .given) (node .kept)
+  module _ {next : Node} (k : GivesUpHighest node next) where
+    below : AboveDecided (count g) (suc (next .left)) (node .given) (node .kept)
     below = open-below (next .left) (k .left)
 
     given : next .given ≡ node .given + 2 ^ next .left
@@ -63,13 +63,13 @@ module _ {g : Setup} {node : Node} (s : Known g node) where
     pub give-reached : {found : List ℕ} → Below g (next .given) found → Reached g next found
     give-reached b = record { decided = rw (given, k .kept) (give-decided (count g) (next .left) (node .given) (node .kept) below); before = b }
 
-module _ {g : Setup} {node : Node} {found : List ℕ} (most : count g ≤ settingsMost) (s : Stands g node found) where
+module _ {g : Setup} {node : Node} {found : List ℕ} (most : count g ≤ settingsMost) (s : Witnessed g node found) where
   known : Known g node
   known = record { most = most; decided = s .reached .decided }
 
   -- Keeping a setting that the witness has: the same model serves.
-  pub keep-stands : {next : Node} → Keeps node next → Share (node .witness) (only settingsMost (node .left)) → Stands g next found
-  keep-stands k has = record {
+  pub keep-witnessed : {next : Node} → KeepsHighest node next → Share (node .witness) (only settingsMost (node .left)) → Witnessed g next found
+  keep-witnessed k has = record {
     reached = keep-reached known k (s .reached .before);
     model = s .model;
     meets = record {
@@ -89,8 +89,8 @@ module _ {g : Setup} {node : Node} {found : List ℕ} (most : count g ≤ settin
           s .shows .exact i l .0 (subst (λ (x : ℕ). In x (node .witness)) e (has .1))
 
   -- Giving up after a dead keep: the node's branch has a way out, and none with the setting kept, so the same witness serves.
-  pub give-stands : {next : Node} → GivesUp node next → ¬ Between g (node .given) (node .given + 2 ^ (node .left - 1)) → Stands g next found
-  give-stands k dead = record {
+  pub give-witnessed : {next : Node} → GivesUpHighest node next → ¬ WayOutBetween g (node .given) (node .given + 2 ^ (node .left - 1)) → Witnessed g next found
+  give-witnessed k dead = record {
     reached = give-reached known k (rw (give-from known k) (below-skip g (node .given) (node .given + 2 ^ (node .left - 1)) found (omega arith) (s .reached .before) dead));
     model = s .model;
     meets = rw (k .kept) (s .meets);
@@ -98,7 +98,7 @@ module _ {g : Setup} {node : Node} {found : List ℕ} (most : count g ≤ settin
   }
 
 -- With no setting left the given-up set is the one way out of the branch, with no further question.
-pub end-way-out : {g : Setup} {node : Node} {found : List ℕ} → Stands g node found → node .left ≡ 0 → WayOut g (node .given)
+pub end-way-out : {g : Setup} {node : Node} {found : List ℕ} → Witnessed g node found → node .left ≡ 0 → WayOut g (node .given)
 end-way-out {g} {node} {found} s e =
     let one = some-way-out g (node .left) (node .given) (node .kept) found (s .reached .decided) (s .reached .before) (s .model) (s .meets) in
     let high = subst (λ (x : ℕ). one .0 < node .given + 2 ^ x) e (one .3) in

@@ -19,16 +19,16 @@ use Rattle.setups.specs.Clauses.{allTrue}
 use Rattle.setups.specs.Setups.{Setup, settings, count, SettingTrue, Without, WayOut}
 use Rattle.setups.proofs.Tests.{without-dec}
 use Rattle.setups.proofs.Duality.{way-out-smallest}
-use Rattle.question.specs.Asking.{Meets, Breaks}
-use Rattle.walk.specs.Walking.{Decided, Below, Between}
+use Rattle.question.specs.Question.{Meets, Breaks}
+use Rattle.walk.specs.Walking.{AboveDecided, Below, WayOutBetween}
 
 -- the digits of a · 2^i from place i up are those of a
 shifted : (i a k : ℕ) → digit (a * 2 ^ i) (i + k) ≡ digit a k
 shifted i a k = high-digit i a (a * 2 ^ i) k (le-refl (a * 2 ^ i)) (omega (arith, pow-pos i))
 
 -- of two ways out neither lies within the other
-apart : (g : Setup) (W S : ℕ) → WayOut g W → WayOut g S → Within W S → W ≡ S
-apart g W S w s h = stable (ℕ-discrete W S) (λ ne. way-out-smallest g S .0 s .1 W h ne (way-out-smallest g W .0 w .0))
+ways-apart : (g : Setup) (W S : ℕ) → WayOut g W → WayOut g S → Within W S → W ≡ S
+ways-apart g W S w s h = stable (ℕ-discrete W S) (λ ne. way-out-smallest g S .0 s .1 W h ne (way-out-smallest g W .0 w .0))
 
 -- the model of a way out's rest breaks each of its settings
 breaks-own : (g : Setup) (S : ℕ) (w : WayOut g S) → Breaks g S (w .meets .0)
@@ -43,48 +43,48 @@ breaks-own g S w i l h t =
 
 module _ (g : Setup) (m : List ℕ) where
   -- it breaks the setting at place i
-  fails : ℕ → Bool
-  fails i = not (allTrue m (getD (settings (g .soft)) i []))
+  untrue : ℕ → Bool
+  untrue i = not (allTrue m (getD (settings (g .soft)) i []))
 
   -- all that it breaks
-  broken : ℕ
-  unfolding fails
-  broken = those (count g) fails
+  brokenSet : ℕ
+  unfolding untrue
+  brokenSet = those (count g) untrue
 
-  broken-in : (i : ℕ) → In i broken → ¬ SettingTrue g m i
-  unfolding fails broken
-  broken-in i h = T-not (allTrue m (getD (settings (g .soft)) i [])) (those-in (count g) fails i .0 h .1)
+  broken-in : (i : ℕ) → In i brokenSet → ¬ SettingTrue g m i
+  unfolding untrue brokenSet
+  broken-in i h = T-not (allTrue m (getD (settings (g .soft)) i [])) (those-in (count g) untrue i .0 h .1)
 
-  broken-out : (i : ℕ) → i < count g → ¬ In i broken → SettingTrue g m i
-  unfolding fails broken
+  broken-out : (i : ℕ) → i < count g → ¬ In i brokenSet → SettingTrue g m i
+  unfolding untrue brokenSet
   broken-out i l h =
       stable (T-dec (allTrue m (getD (settings (g .soft)) i [])))
-      (λ q. h (those-in (count g) fails i .1 (l, not-T (allTrue m (getD (settings (g .soft)) i [])) q)))
+      (λ q. h (those-in (count g) untrue i .1 (l, not-T (allTrue m (getD (settings (g .soft)) i [])) q)))
 
   -- within it there is a way out
-  broken-way-out : (kept : ℕ) (found : List ℕ) → Meets g kept found m → (S : ℕ) × Within S broken × WayOut g S
-  unfolding broken
+  broken-way-out : (kept : ℕ) (found : List ℕ) → Meets g kept found m → (S : ℕ) × Within S brokenSet × WayOut g S
+  unfolding brokenSet
   broken-way-out kept found y = (S, least .1, way)
     where
-      without : Without g broken
+      without : Without g brokenSet
       without = (m, record { assigns = y .models .assigns; hard = y .models .hard; kept = broken-out })
 
-      least : (S : ℕ) × Within S broken × Smallest (Without g) S
-      least = smallest-within (Without g) (without-dec g) broken without
+      least : (S : ℕ) × Within S brokenSet × Smallest (Without g) S
+      least = smallest-within (Without g) (without-dec g) brokenSet without
 
       S : ℕ
       S = least .0
 
       way : WayOut g S
       way = record {
-        below = let b = those-lt (count g) fails in let l = within-le S broken (least .1) in omega arith;
+        below = let b = those-lt (count g) untrue in let l = within-le S brokenSet (least .1) in omega arith;
         meets = least .2 .0;
         tight = λ i h. least .2 .1 (S - 2 ^ i) (out-within i S h) (out-differs i S h);
       }
 
-module _ (g : Setup) (left given kept : ℕ) (found : List ℕ) (decided : Decided (count g) left given kept) (before : Below g given found) where
+module _ (g : Setup) (left given kept : ℕ) (found : List ℕ) (decided : AboveDecided (count g) left given kept) (before : Below g given found) where
   -- after No the branch is empty: the model of a way out in it would have met all that was asked
-  pub no-way-out : ((m : List ℕ) → Meets g kept found m → Breaks g given m → ⊥) → ¬ Between g given (given + 2 ^ left)
+  pub no-way-out : ((m : List ℕ) → Meets g kept found m → Breaks g given m → ⊥) → ¬ WayOutBetween g given (given + 2 ^ left)
   no-way-out refutes s =
       refutes m (record { models = record { assigns = s .1 .meets .1 .assigns; hard = s .1 .meets .1 .hard; kept = keeps }; each = each }) breaks
     where
@@ -121,15 +121,15 @@ module _ (g : Setup) (left given kept : ℕ) (found : List ℕ) (decided : Decid
 
           inside : ¬ ((j : ℕ) × (j < count g) × (In j W × ¬ In j S)) → (j : ℕ) × (j < count g) × In j W × SettingTrue g m j
           inside q =
-              let e : W ≡ S = apart g W S (w .0) (s .1) (λ j k. stable (in-dec j S) (λ x. q (j, in-below (count g) (w .0 .below) k, (k, x)))) in
+              let e : W ≡ S = ways-apart g W S (w .0) (s .1) (λ j k. stable (in-dec j S) (λ x. q (j, in-below (count g) (w .0 .below) k, (k, x)))) in
               absurd (let b : ⊥ = omega (arith, w .1, s .2) in b)
 
   -- after Yes it is not: what the model breaks contains a way out, and none that is found, so it isn't below the branch; nor is it
   -- above, since it has no kept setting
-  pub some-way-out : (m : List ℕ) → Meets g kept found m → Between g given (given + 2 ^ left)
+  pub some-way-out : (m : List ℕ) → Meets g kept found m → WayOutBetween g given (given + 2 ^ left)
   some-way-out m y = (S, way, by-cases (decLt S given) new (λ q. let z : given ≤ S = omega arith in z), high)
     where
-      least : (S : ℕ) × Within S (broken g m) × WayOut g S
+      least : (S : ℕ) × Within S (brokenSet g m) × WayOut g S
       least = broken-way-out g m kept found y
 
       S : ℕ

@@ -11,7 +11,7 @@ use Rattle.numbers.proofs.Deciding.{dec-and, dec-iff}
 use Rattle.sets.proofs.Lists.{exactly-unique, exactly-next, exactly-skip, listed-append, rising-append, exists}
 use Rattle.setups.specs.Setups.{Setup, WayOut}
 use Rattle.setups.proofs.Tests.{way-out-dec}
-use Rattle.walk.specs.Walking.{Below, Between}
+use Rattle.walk.specs.Walking.{Below, WayOutBetween}
 
 -- the way out at the bound follows
 pub below-next : (g : Setup) (S : ℕ) (list : List ℕ) → Below g S list → WayOut g S → Below g (S + 1) (list ++ (S ∷ []))
@@ -19,7 +19,7 @@ below-next g S list b w = rw (add-one S) (exactly-next (WayOut g) S list b w)
 
 module _ (g : Setup) (low high : ℕ) (list : List ℕ) (l : low ≤ high) (b : Below g low list) where
   -- none is between the bounds
-  pub below-skip : ¬ Between g low high → Below g high list
+  pub below-skip : ¬ WayOutBetween g low high → Below g high list
   below-skip none = exactly-skip (WayOut g) low high list l (λ S from to w. none (S, w, from, to)) b
 
   -- a way out below `high` is below `low` or not

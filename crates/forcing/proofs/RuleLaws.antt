@@ -14,43 +14,44 @@ use Rattle.setups.specs.Searching.{freeCount, more, seeValue}
 use Rattle.setups.specs.declared.Seen.{Seen}
 use Rattle.setups.specs.declared.Seen.the-variants.{AllFalse, OneFree, Enough}
 use Rattle.setups.proofs.Settling.{wish-small}
-use Rattle.forcing.specs.Tests.{slot, isTrue}
-use Rattle.forcing.specs.Values.{Decided, Agrees}
-use Rattle.forcing.specs.Steps.{Step, Sees, Fresh, Ended}
-use Rattle.forcing.specs.declared.forcing.Forced.{Forced}
+use Rattle.literals.specs.Slots.{slot, AllSet}
+use Rattle.forcing.specs.Holding.{isTrue}
+use Rattle.forcing.specs.Values.{AgreesWith}
+use Rattle.forcing.specs.Rules.{KeepsAnswers, Sees, StillFree, EndsTrue}
+use Rattle.forcing.specs.declared.forcing.Progress.{Progress}
 use Rattle.forcing.proofs.ValueLaws.{free-set-le, free-set-lt, agrees-set}
 
 -- ---- steps
 
 -- no step at all
-pub step-none : (Answer : List ℕ → Type 0) (now : Forced) → now .fails ≡ false → Step Answer now now
-step-none Answer now fine = record {
+pub answers-still : (Answer : List ℕ → Type 0) (now : Progress) → now .fails ≡ false → KeepsAnswers Answer now now
+answers-still Answer now fine = record {
   less = le-refl (freeCount (now .values));
   moves = λ f t. absurd (true≢false (sym t ∙ f));
   stays = λ m d a agrees. (fine, agrees);
 }
 
 -- it fails, and no answer agrees
-pub step-fails : (Answer : List ℕ → Type 0) (now : Forced) → ((m : List ℕ) → Decided m → Answer m → ¬ Agrees (now .values) m)
-    → Step Answer now (record { fails = true; moved = now .moved; values = now .values })
-step-fails Answer now none = record {
+pub answers-none : (Answer : List ℕ → Type 0) (now : Progress) → ((m : List ℕ) → AllSet m → Answer m → ¬ AgreesWith (now .values) m)
+    → KeepsAnswers Answer now (record { fails = true; moved = now .moved; values = now .values })
+answers-none Answer now none = record {
   less = le-refl (freeCount (now .values));
   moves = λ f t. absurd (true≢false (sym t ∙ f));
   stays = λ m d a agrees. absurd (none m d a agrees);
 }
 
 -- a step keeps the answers of a narrower kind too
-pub step-weaker : (A B : List ℕ → Type 0) (a b : Forced) → Step B a b → ((m : List ℕ) → A m → B m) → Step A a b
-step-weaker A B a b step still = record {
+pub answers-fewer : (A B : List ℕ → Type 0) (a b : Progress) → KeepsAnswers B a b → ((m : List ℕ) → A m → B m) → KeepsAnswers A a b
+answers-fewer A B a b step still = record {
   less = step .less;
   moves = step .moves;
   stays = λ m d x agrees. step .stays m d (still m x) agrees;
 }
 
 -- one step after another, where each answer of the first is one of the second
-pub step-then : (A B : List ℕ → Type 0) (a b c : Forced) → Step A a b → Step B b c
-    → ((m : List ℕ) → Decided m → A m → Agrees (a .values) m → B m) → Step A a c
-step-then A B a b c first second still = record {
+pub answers-then : (A B : List ℕ → Type 0) (a b c : Progress) → KeepsAnswers A a b → KeepsAnswers B b c
+    → ((m : List ℕ) → AllSet m → A m → AgreesWith (a .values) m → B m) → KeepsAnswers A a c
+answers-then A B a b c first second still = record {
   less = omega (arith, first .less, second .less);
   moves = moves;
   stays = λ m d x agrees. second .stays m d (still m d x agrees) (first .stays m d x agrees .1);
@@ -70,7 +71,7 @@ sees-free m (OneFree l) b t s =
 sees-free m Enough b t s = tt
 
 -- what a clause so far says of an assignment that agrees with the values, it says with one literal more
-pub sees-more : (values m : List ℕ) → Agrees values m → (seen : Seen) (b : ℕ) (t : Bool) → Sees m seen t
+pub sees-more : (values m : List ℕ) → AgreesWith values m → (seen : Seen) (b : ℕ) (t : Bool) → Sees m seen t
     → Sees m (seeValue seen b (getD values (slot b) 0)) (t || isTrue m b)
 sees-more values m agrees seen b t s =
     cond-case says (ltb 1 x) (λ e. sees-free m seen b t s) (λ set. cond-case says (eqb x (wish b)) (λ e. tt)
@@ -85,50 +86,50 @@ sees-more values m agrees seen b t s =
     same : ltb 1 x ≡ false → getD m (slot b) 0 ≡ x
     same e = agrees (slot b) (let l = ltb-false 1 x e in omega arith)
 
-fresh-free : (values : List ℕ) (seen : Seen) (b : ℕ) → 1 < getD values (slot b) 0 → Fresh values seen → Fresh values (more seen b)
+fresh-free : (values : List ℕ) (seen : Seen) (b : ℕ) → 1 < getD values (slot b) 0 → StillFree values seen → StillFree values (more seen b)
 fresh-free values AllFalse b l f = l
-fresh-free values (OneFree k) b l f = cond-case (Fresh values) (eqb k b) (λ e. f) (λ e. tt)
+fresh-free values (OneFree k) b l f = cond-case (StillFree values) (eqb k b) (λ e. f) (λ e. tt)
 fresh-free values Enough b l f = tt
 
 -- its one free literal is free
-pub fresh-more : (values : List ℕ) (seen : Seen) (b : ℕ) → Fresh values seen → Fresh values (seeValue seen b (getD values (slot b) 0))
+pub fresh-more : (values : List ℕ) (seen : Seen) (b : ℕ) → StillFree values seen → StillFree values (seeValue seen b (getD values (slot b) 0))
 fresh-more values seen b f =
-    cond-case (Fresh values) (ltb 1 (getD values (slot b) 0)) (λ e. fresh-free values seen b (ltb-true 1 (getD values (slot b) 0) e) f)
-    (λ e. cond-case (Fresh values) (eqb (getD values (slot b) 0) (wish b)) (λ q. tt) (λ q. f))
+    cond-case (StillFree values) (ltb 1 (getD values (slot b) 0)) (λ e. fresh-free values seen b (ltb-true 1 (getD values (slot b) 0) e) f)
+    (λ e. cond-case (StillFree values) (eqb (getD values (slot b) 0) (wish b)) (λ q. tt) (λ q. f))
 
 -- ---- the end of a clause that is due
 
-module _ (now : Forced) where
+module _ (now : Progress) where
   -- wholly false
   pub ends-false : (due : Bool) (seen : Seen) → T due → seen ≡ AllFalse
-      → Step (λ m. T due → Ended m seen) now (record { fails = true; moved = now .moved; values = now .values })
+      → KeepsAnswers (λ m. T due → EndsTrue m seen) now (record { fails = true; moved = now .moved; values = now .values })
   ends-false due seen d e =
-      step-fails (λ m. T due → Ended m seen) now
-      (λ m _ a _. let end = subst (Ended m) e (a d) in subst T (end .1) (end .2))
+      answers-none (λ m. T due → EndsTrue m seen) now
+      (λ m _ a _. let end = subst (EndsTrue m) e (a d) in subst T (end .1) (end .2))
 
   -- one free literal
-  pub ends-one : (due : Bool) (seen : Seen) (b : ℕ) → T due → seen ≡ OneFree b → Fresh (now .values) seen
-      → Step (λ m. T due → Ended m seen) now (record { fails = false; moved = true; values = set (now .values) (slot b) (wish b) })
+  pub ends-one : (due : Bool) (seen : Seen) (b : ℕ) → T due → seen ≡ OneFree b → StillFree (now .values) seen
+      → KeepsAnswers (λ m. T due → EndsTrue m seen) now (record { fails = false; moved = true; values = set (now .values) (slot b) (wish b) })
   ends-one due seen b d e f = record {
     less = free-set-le (now .values) (slot b) (wish b) (le-of-suc-le-suc (wish-small b));
-    moves = λ _ _. free-set-lt (now .values) (slot b) (wish b) (subst (Fresh (now .values)) e f) (le-of-suc-le-suc (wish-small b));
+    moves = λ _ _. free-set-lt (now .values) (slot b) (wish b) (subst (StillFree (now .values)) e f) (le-of-suc-le-suc (wish-small b));
     stays = λ m _ a agrees.
-        let end = subst (Ended m) e (a d) in
+        let end = subst (EndsTrue m) e (a d) in
         (refl, agrees-set (now .values) m (slot b) (wish b) agrees (eqb→eq (getD m (slot b) 0) (wish b) (subst T (end .1) (end .2))));
   }
 
 -- ---- a literal that has to be false
 
-module _ (now : Forced) (b : ℕ) where
+module _ (now : Progress) (b : ℕ) where
   -- it is true
   pub denied-true : getD (now .values) (slot b) 0 ≡ wish b
-      → Step (λ m. isTrue m b ≡ false) now (record { fails = true; moved = now .moved; values = now .values })
+      → KeepsAnswers (λ m. isTrue m b ≡ false) now (record { fails = true; moved = now .moved; values = now .values })
   denied-true e =
-      step-fails (λ m. isTrue m b ≡ false) now
+      answers-none (λ m. isTrue m b ≡ false) now
       (λ m _ a agrees. true≢false (sym (eq-eqb (getD m (slot b) 0) (wish b) (agrees (slot b) (omega (arith, wish-small b)) ∙ e)) ∙ a))
 
   -- it is false or free
-  pub denied : Step (λ m. isTrue m b ≡ false) now
+  pub denied : KeepsAnswers (λ m. isTrue m b ≡ false) now
       (record { fails = false; moved = now .moved; values = set (now .values) (slot b) (1 - wish b) })
   denied = record {
     less = free-set-le (now .values) (slot b) (1 - wish b) (omega arith);

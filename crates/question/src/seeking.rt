@@ -1,4 +1,4 @@
-// The search of the question: settle, and split on what the chooser says. It stops as soon as what is asked is met.
+// The search of the question: rounds of the rules, and a split on what the chooser says. It stops as soon as what is asked is met.
 use crate::choosing::Choice;
 use crate::choosing::choose;
 use forcing::Standing;
@@ -15,8 +15,8 @@ use sets::Set;
 ghost use mathlib.Core.Path.{_≡_};
 ghost use mathlib.Core.Bool.{true};
 ghost use mathlib.Core.Logic.{_↔_};
-ghost use Rattle.forcing.specs.Tests.{isTrue};
-ghost use Rattle.question.specs.Searches.{Asked, failing, Settles, Done, Told};
+ghost use Rattle.forcing.specs.Holding.{isTrue};
+ghost use Rattle.question.specs.Seeking.{Fulfils, failing, Advances, Done, Seeks};
 
 // The values and kept settings after each rule was put to use once; whether that made a difference; how the settings stand then.
 pub struct Round {
@@ -51,7 +51,7 @@ fn failed(values: Values, kept: Set) -> Round
 
 // Each rule once: the kept settings, the hard clauses, the found sets.
 fn one_round(values: Values, kept: Set, hard: &[u8], soft: &[u8], found: &[Set]) -> Round
-    ensures { λ r. ⌜ Settles kept (now (hard .entry)) (now (soft .entry)) (now (found .entry)) values r ⌝ }
+    ensures { λ r. ⌜ Advances kept (now (hard .entry)) (now (soft .entry)) (now (found .entry)) values r ⌝ }
 {
     let forced = force_both(values, kept, hard, soft);
     let changed = forced.values;
@@ -82,8 +82,8 @@ fn one_round(values: Values, kept: Set, hard: &[u8], soft: &[u8], found: &[Set])
 }
 
 // Rounds until one makes no difference.
-pub fn settle(values: Values, kept: Set, hard: &[u8], soft: &[u8], found: &[Set]) -> Round
-    ensures { λ r. ⌜ Settles kept (now (hard .entry)) (now (soft .entry)) (now (found .entry)) values r ⌝ }
+pub fn all_rounds(values: Values, kept: Set, hard: &[u8], soft: &[u8], found: &[Set]) -> Round
+    ensures { λ r. ⌜ Advances kept (now (hard .entry)) (now (soft .entry)) (now (found .entry)) values r ⌝ }
 {
     let mut last = one_round(values, kept, hard, soft, found);
     while last.moved {
@@ -107,31 +107,31 @@ fn done(round: Round, hard: &[u8], found: &[Set]) -> bool
 
 // One side of a split after the other.
 pub fn seek(values: Values, kept: Set, hard: &[u8], soft: &[u8], found: &[Set]) -> Sought
-    ensures { λ r. ⌜ Told (λ m. Asked kept (now (hard .entry)) (now (soft .entry)) (now (found .entry)) (isTrue m)) values r ⌝ }
+    ensures { λ r. ⌜ Seeks (λ m. Fulfils kept (now (hard .entry)) (now (soft .entry)) (now (found .entry)) (isTrue m)) values r ⌝ }
 {
-    let settled = settle(values, kept, hard, soft, found);
-    let now = settled.values;
-    if settled.fails {
+    let last = all_rounds(values, kept, hard, soft, found);
+    let now = last.values;
+    if last.fails {
         return Sought {
             fails: true,
             values: now,
         };
     }
-    if done(settled, hard, found) {
+    if done(last, hard, found) {
         return Sought {
             fails: false,
             values: now,
         };
     }
-    match choose(settled, hard, soft, found) {
-        Choice::Nothing => Sought {
+    match choose(last, hard, soft, found) {
+        Choice::NothingToTry => Sought {
             fails: true,
             values: now,
         },
-        Choice::Literal(literal) => {
-            let first = seek(with_true(now, literal), settled.kept, hard, soft, found);
+        Choice::Try(literal) => {
+            let first = seek(with_true(now, literal), last.kept, hard, soft, found);
             if first.fails {
-                return seek(with_false(now, literal), settled.kept, hard, soft, found);
+                return seek(with_false(now, literal), last.kept, hard, soft, found);
             }
             first
         }

@@ -6,10 +6,10 @@ use mathlib.Core.List.{List, [], _∷_}
 use Prim.Native.Nat.{ℕ, suc, _+_, _^_, _≤_, _<_, min, zero-le, suc-le-suc}
 use native.Mathlib.Nat.{zero-lt-suc, zero-add}
 use native.Mathlib.Omega.{arith}
-use lib.Dec.{T, ltb, lt→ltb}
+use lib.Dec.{T}
 use lib.ListN.{length, getD, drop}
 use Rattle.sets.specs.Sets.{In}
-use Rattle.numbers.proofs.Deciding.{T-true, and-both}
+use Rattle.numbers.proofs.Deciding.{T-true}
 use Rattle.sets.proofs.Digits.{in-below}
 use Rattle.setups.specs.Limits.{settingsMost}
 use Rattle.setups.specs.Clauses.{clauses}
@@ -17,24 +17,25 @@ use Rattle.setups.specs.Setups.{settings}
 use Rattle.setups.specs.Searching.{seeValue}
 use Rattle.setups.specs.declared.Seen.{Seen}
 use Rattle.setups.specs.declared.Seen.the-variants.{AllFalse}
-use Rattle.forcing.specs.Tests.{slot, isTrue, passesAt, Broken}
-use Rattle.forcing.specs.Values.{Decided, Agrees}
-use Rattle.forcing.specs.Selectors.{next, Owes, Owing, OwingBoth}
-use Rattle.forcing.specs.Steps.{Step, Sees, Fresh, Ended}
-use Rattle.forcing.specs.declared.forcing.Forced.{Forced}
+use Rattle.literals.specs.Slots.{slot, AllSet}
+use Rattle.forcing.specs.Holding.{isTrue, AllBroken}
+use Rattle.forcing.specs.Values.{AgreesWith}
+use Rattle.forcing.specs.Selectors.{nextSelector, Owes, Owing, OwingBoth}
+use Rattle.forcing.specs.Rules.{KeepsAnswers, Sees, StillFree, EndsTrue}
+use Rattle.forcing.specs.declared.forcing.Progress.{Progress}
 use Rattle.forcing.specs.declared.selectors.Owed.{Owed}
-use Rattle.forcing.specs.declared.selectors.Owed.the-variants.{Every, Only}
-use Rattle.forcing.proofs.Verdicts.{verdicts, verdict-clause, verdict-setting, verdicts-length}
+use Rattle.forcing.specs.declared.selectors.Owed.the-variants.{EveryClause, OfSettings}
+use Rattle.forcing.proofs.Verdicts.{verdicts, verdict-clause, verdict-holds, verdicts-length}
 use Rattle.forcing.proofs.Verdicts.{verdicts-end, verdicts-literal, first-fails}
 use Rattle.forcing.proofs.SelectorLaws.{Along, along-starts, along-ends, along-reads, along-inside}
-use Rattle.forcing.proofs.StepLaws.{step-none, step-weaker, step-then, sees-more, fresh-more}
+use Rattle.forcing.proofs.RuleLaws.{answers-still, answers-fewer, answers-then, sees-more, fresh-more}
 
 -- ---- the clauses that are owed
 
 -- of the clauses whose verdicts these are, the first at selector n, each that is owed passes
 abbrev OwedFrom : Owed → ℕ → List Bool → Type 0
 OwedFrom owed n [] = Unit {0}
-OwedFrom owed n (passes ∷ rest) = (Owes owed n → T passes) × OwedFrom owed (next n) rest
+OwedFrom owed n (passes ∷ rest) = (Owes owed n → T passes) × OwedFrom owed (nextSelector n) rest
 
 owed-from : (owed : Owed) (k : ℕ) (list : List Bool)
     → ((j : ℕ) → j < length list → Owes owed (min (k + j) settingsMost) → T (getD list j false))
@@ -42,27 +43,27 @@ owed-from : (owed : Owed) (k : ℕ) (list : List Bool)
 owed-from owed k [] h = tt
 owed-from owed k (passes ∷ rest) h = (
   (λ o. h 0 (zero-lt-suc (length rest)) (subst (Owes owed) (let e : min k settingsMost ≡ min (k + 0) settingsMost = omega arith in e) o)),
-  subst (λ (n : ℕ). OwedFrom owed n rest) (let e : min (suc k) settingsMost ≡ next (min k settingsMost) = omega arith in e)
+  subst (λ (n : ℕ). OwedFrom owed n rest) (let e : min (suc k) settingsMost ≡ nextSelector (min k settingsMost) = omega arith in e)
       (owed-from owed (suc k) rest (λ j l o.
       h (suc j) (suc-le-suc l) (subst (Owes owed) (let e : min (suc k + j) settingsMost ≡ min (k + suc j) settingsMost = omega arith in e) o))),
 )
 
 -- at place i, with selector n and the clause at hand as `seen` says
-pub record Forcing (owed : Owed) (bytes : List ℕ) (earlier forced : Forced) (seen : Seen) (n i : ℕ) : Type 0 where
+pub record Forcing (owed : Owed) (bytes : List ℕ) (earlier forced : Progress) (seen : Seen) (n i : ℕ) : Type 0 where
   pub upto : i ≤ length bytes
   pub fine : forced .fails ≡ false
-  pub fresh : Fresh (forced .values) seen
-  pub step : Step (λ m. Owing owed (isTrue m) bytes) earlier forced
-  pub rest : (m : List ℕ) → Decided m → Owing owed (isTrue m) bytes → Agrees (earlier .values) m
+  pub fresh : StillFree (forced .values) seen
+  pub step : KeepsAnswers (λ m. Owing owed (isTrue m) bytes) earlier forced
+  pub rest : (m : List ℕ) → AllSet m → Owing owed (isTrue m) bytes → AgreesWith (earlier .values) m
       → (t : Bool) × Sees m seen t × OwedFrom owed n (verdicts (isTrue m) t (clauses (drop i bytes)))
 
-pub forcing-starts : (owed : Owed) (bytes : List ℕ) (earlier : Forced) (n : ℕ) → earlier .fails ≡ false → n ≡ 0
+pub forcing-starts : (owed : Owed) (bytes : List ℕ) (earlier : Progress) (n : ℕ) → earlier .fails ≡ false → n ≡ 0
     → Forcing owed bytes earlier earlier AllFalse n 0
 forcing-starts owed bytes earlier n fine e = rw e (record {
   upto = zero-le;
   fine = fine;
   fresh = tt;
-  step = step-none (λ m. Owing owed (isTrue m) bytes) earlier fine;
+  step = answers-still (λ m. Owing owed (isTrue m) bytes) earlier fine;
   rest = λ m d owing agrees. (false, refl, owed-from owed 0 (verdicts (isTrue m) false (clauses bytes)) (each m owing));
 })
   where
@@ -73,7 +74,7 @@ forcing-starts owed bytes earlier n fine e = rw e (record {
         (owing j (subst (λ (x : ℕ). j < x) (verdicts-length (isTrue m) false (clauses bytes)) l)
         (subst (λ (x : ℕ). Owes owed (min x settingsMost)) (zero-add j) o))
 
-module _ (owed : Owed) (bytes : List ℕ) (earlier forced : Forced) (seen : Seen) (n i : ℕ)
+module _ (owed : Owed) (bytes : List ℕ) (earlier forced : Progress) (seen : Seen) (n i : ℕ)
     (at : Forcing owed bytes earlier forced seen n i) (l : i < length bytes) where
   -- one literal more
   pub forcing-reads : getD bytes i 0 ≢ 0 → (p : ℕ) → p ≡ slot (getD bytes i 0) → (seen′ : Seen)
@@ -93,26 +94,26 @@ module _ (owed : Owed) (bytes : List ℕ) (earlier forced : Forced) (seen : Seen
         );
   })
 
-  module _ (z : getD bytes i 0 ≡ 0) (due : Bool) (is : (due ≡ true) ↔ Owes owed n) (after : Forced)
-      (end : Step (λ m. T due → Ended m seen) forced after) where
+  module _ (z : getD bytes i 0 ≡ 0) (due : Bool) (is : (due ≡ true) ↔ Owes owed n) (after : Progress)
+      (end : KeepsAnswers (λ m. T due → EndsTrue m seen) forced after) where
     -- what is said of an answer where the clause ends
-    at-end : (m : List ℕ) → Decided m → Owing owed (isTrue m) bytes → Agrees (earlier .values) m
-        → (T due → Ended m seen) × OwedFrom owed (next n) (verdicts (isTrue m) false (clauses (drop (i + 1) bytes)))
+    at-end : (m : List ℕ) → AllSet m → Owing owed (isTrue m) bytes → AgreesWith (earlier .values) m
+        → (T due → EndsTrue m seen) × OwedFrom owed (nextSelector n) (verdicts (isTrue m) false (clauses (drop (i + 1) bytes)))
     at-end m d owing agrees =
         let r = at .rest m d owing agrees in
         let q = subst (OwedFrom owed n) (verdicts-end (isTrue m) (r .0) bytes i l z) (r .2) in
         ((λ t. (r .0, r .1, q .0 (is .0 (T-true due .0 t)))), q .1)
 
-    both : Step (λ m. Owing owed (isTrue m) bytes) earlier after
+    both : KeepsAnswers (λ m. Owing owed (isTrue m) bytes) earlier after
     both =
-        step-then (λ m. Owing owed (isTrue m) bytes) (λ m. T due → Ended m seen) earlier forced after (at .step) end
+        answers-then (λ m. Owing owed (isTrue m) bytes) (λ m. T due → EndsTrue m seen) earlier forced after (at .step) end
         (λ m d owing agrees. at-end m d owing agrees .0)
 
-    pub forcing-fails : Step (λ m. Owing owed (isTrue m) bytes) earlier after
+    pub forcing-fails : KeepsAnswers (λ m. Owing owed (isTrue m) bytes) earlier after
     forcing-fails = both
 
     -- the next clause begins
-    pub forcing-ends : after .fails ≡ false → (n′ : ℕ) → n′ ≡ next n → Forcing owed bytes earlier after AllFalse n′ (i + 1)
+    pub forcing-ends : after .fails ≡ false → (n′ : ℕ) → n′ ≡ nextSelector n → Forcing owed bytes earlier after AllFalse n′ (i + 1)
     forcing-ends fine n′ e = rw e (record {
       upto = omega arith;
       fine = fine;
@@ -124,18 +125,18 @@ module _ (owed : Owed) (bytes : List ℕ) (earlier forced : Forced) (seen : Seen
 -- ---- the kept settings, then the hard clauses
 
 -- the pass over the kept settings alone, where it fails
-pub both-first : (kept : ℕ) (hard soft : List ℕ) (before keeps : Forced) → Step (λ m. Owing (Only kept) (isTrue m) soft) before keeps
-    → Step (λ m. OwingBoth kept (isTrue m) hard soft) before keeps
+pub both-first : (kept : ℕ) (hard soft : List ℕ) (before keeps : Progress) → KeepsAnswers (λ m. Owing (OfSettings kept) (isTrue m) soft) before keeps
+    → KeepsAnswers (λ m. OwingBoth kept (isTrue m) hard soft) before keeps
 both-first kept hard soft before keeps step =
-    step-weaker (λ m. OwingBoth kept (isTrue m) hard soft) (λ m. Owing (Only kept) (isTrue m) soft) before keeps step
+    answers-fewer (λ m. OwingBoth kept (isTrue m) hard soft) (λ m. Owing (OfSettings kept) (isTrue m) soft) before keeps step
     (λ m both. both .keeps)
 
 -- and the one over the hard clauses after it
-pub both-second : (kept : ℕ) (hard soft : List ℕ) (before keeps rules : Forced)
-    → Step (λ m. Owing (Only kept) (isTrue m) soft) before keeps
-    → Step (λ m. Owing Every (isTrue m) hard) keeps rules → Step (λ m. OwingBoth kept (isTrue m) hard soft) before rules
+pub both-second : (kept : ℕ) (hard soft : List ℕ) (before keeps rules : Progress)
+    → KeepsAnswers (λ m. Owing (OfSettings kept) (isTrue m) soft) before keeps
+    → KeepsAnswers (λ m. Owing EveryClause (isTrue m) hard) keeps rules → KeepsAnswers (λ m. OwingBoth kept (isTrue m) hard soft) before rules
 both-second kept hard soft before keeps rules first second =
-    step-then (λ m. OwingBoth kept (isTrue m) hard soft) (λ m. Owing Every (isTrue m) hard) before keeps rules
+    answers-then (λ m. OwingBoth kept (isTrue m) hard soft) (λ m. Owing EveryClause (isTrue m) hard) before keeps rules
     (both-first kept hard soft before keeps first) second (λ m d both agrees. both .rules)
 
 -- ---- the settings that are given up
@@ -149,32 +150,31 @@ abbrev BrokenFrom : ℕ → ℕ → List Bool → Type 0
 BrokenFrom given n list = (j : ℕ) → n + j < settingsMost → In (n + j) given → ¬ T (getD list j false)
 
 -- at place i, with selector n
-pub record Giving (given : ℕ) (soft : List ℕ) (earlier forced : Forced) (n i : ℕ) : Type 0 where
+pub record Giving (given : ℕ) (soft : List ℕ) (earlier forced : Progress) (n i : ℕ) : Type 0 where
   pub along : Along soft n i
   pub fine : forced .fails ≡ false
-  pub step : Step (λ m. Broken given (isTrue m) soft) earlier forced
-  pub rest : (m : List ℕ) → Decided m → Broken given (isTrue m) soft → Agrees (earlier .values) m
+  pub step : KeepsAnswers (λ m. AllBroken given (isTrue m) soft) earlier forced
+  pub rest : (m : List ℕ) → AllSet m → AllBroken given (isTrue m) soft → AgreesWith (earlier .values) m
       → (t : Bool) × BrokenFrom given n (verdicts (isTrue m) t (clauses (drop i soft)))
 
-pub giving-starts : (given : ℕ) (soft : List ℕ) (earlier : Forced) (n : ℕ) → earlier .fails ≡ false → n ≡ 0
+pub giving-starts : (given : ℕ) (soft : List ℕ) (earlier : Progress) (n : ℕ) → earlier .fails ≡ false → n ≡ 0
     → Giving given soft earlier earlier n 0
 giving-starts given soft earlier n fine e = rw e (record {
   along = along-starts soft 0 refl;
   fine = fine;
-  step = step-none (λ m. Broken given (isTrue m) soft) earlier fine;
+  step = answers-still (λ m. AllBroken given (isTrue m) soft) earlier fine;
   rest = λ m d broken agrees. (
     false,
     λ j l h t.
-        broken (0 + j) h (and-both (ltb (0 + j) settingsMost) (passesAt (isTrue m) (settings soft) (0 + j)) (lt→ltb (0 + j) settingsMost l)
-        (subst T (sym (verdict-setting (isTrue m) soft (0 + j)))
-        (subst (λ (x : ℕ). T (getD (verdicts (isTrue m) false (clauses soft)) x false)) (sym (zero-add j)) t))),
+        broken (0 + j) h (verdict-holds (isTrue m) soft (0 + j) .1
+        (l, subst (λ (x : ℕ). T (getD (verdicts (isTrue m) false (clauses soft)) x false)) (sym (zero-add j)) t)),
   );
 })
 
-module _ (given : ℕ) (soft : List ℕ) (earlier forced : Forced) (n i : ℕ) (at : Giving given soft earlier forced n i)
+module _ (given : ℕ) (soft : List ℕ) (earlier forced : Progress) (n i : ℕ) (at : Giving given soft earlier forced n i)
     (l : i < length soft) where
   -- the setting at hand ends
-  pub giving-ends : getD soft i 0 ≡ 0 → (n′ : ℕ) → n′ ≡ next n → Giving given soft earlier forced n′ (i + 1)
+  pub giving-ends : getD soft i 0 ≡ 0 → (n′ : ℕ) → n′ ≡ nextSelector n → Giving given soft earlier forced n′ (i + 1)
   giving-ends z n′ e = record {
     along = along-ends soft n i (at .along) l z n′ e;
     fine = at .fine;
@@ -187,7 +187,7 @@ module _ (given : ℕ) (soft : List ℕ) (earlier forced : Forced) (n i : ℕ) (
 
   module _ (z : getD soft i 0 ≢ 0) where
     -- past a literal
-    past : (m : List ℕ) → Decided m → Broken given (isTrue m) soft → Agrees (earlier .values) m
+    past : (m : List ℕ) → AllSet m → AllBroken given (isTrue m) soft → AgreesWith (earlier .values) m
         → (t : Bool) × BrokenFrom given n (verdicts (isTrue m) (t || isTrue m (getD soft i 0)) (clauses (drop (i + 1) soft)))
     past m d broken agrees =
         let r = at .rest m d broken agrees in
@@ -201,12 +201,12 @@ module _ (given : ℕ) (soft : List ℕ) (earlier forced : Forced) (n i : ℕ) (
       rest = λ m d broken agrees. let r = past m d broken agrees in (r .0 || isTrue m (getD soft i 0), r .1);
     }
 
-    module _ (small : given < 2 ^ settingsMost) (below : given < 2 ^ length (settings soft)) (h : In n given) (after : Forced)
-        (denies : Step (λ m. isTrue m (getD soft i 0) ≡ false) forced after) where
+    module _ (small : given < 2 ^ settingsMost) (below : given < 2 ^ length (settings soft)) (h : In n given) (after : Progress)
+        (denies : KeepsAnswers (λ m. isTrue m (getD soft i 0) ≡ false) forced after) where
       -- a literal of a given-up setting is false in each answer
-      pub giving-denies : Step (λ m. Broken given (isTrue m) soft) earlier after
+      pub giving-denies : KeepsAnswers (λ m. AllBroken given (isTrue m) soft) earlier after
       giving-denies =
-          step-then (λ m. Broken given (isTrue m) soft) (λ m. isTrue m (getD soft i 0) ≡ false) earlier forced after (at .step) denies
+          answers-then (λ m. AllBroken given (isTrue m) soft) (λ m. isTrue m (getD soft i 0) ≡ false) earlier forced after (at .step) denies
           (λ m d broken agrees.
           let r = past m d broken agrees in
           or-none (r .0) (isTrue m (getD soft i 0))

@@ -1,10 +1,10 @@
--- `selectors::chosen` meets its contract: a set has no setting beyond its width, and below it the selector's setting is asked for.
+-- `selectors::has_selector` meets its contract: a set has no setting beyond its width, and below it the selector's setting is asked for.
 use mathlib.Core.Bool.{false≢true}
 use borrow.Author.Needs.{needs}
 use native.Mathlib.Omega.{arith}
 use Rattle.forcing.proofs.SelectorLaws.{beyond, has-selector}
-use Rattle.forcing.proofs.selectors.chosen.Statement.{statement}
-use Rattle.forcing.proofs.selectors.chosen.Tie as tie
+use Rattle.forcing.proofs.selectors.has_selector.Statement.{statement}
+use Rattle.forcing.proofs.selectors.has_selector.Tie as tie
 
 returns : tie.Need-returns
 returns c =
@@ -22,5 +22,5 @@ returns-2 c =
     let a = c .before .before .before .before .args in
     has-selector _ (a .set) (a .selector .0) _ (omega arith) (c .before .setting-of .ensures) (c .has .ensures)
 
-pub chosen-spec : {M : Type 1} → statement M
-chosen-spec = tie.close (tie.spec returns setting-of-requires has-requires returns-2)
+pub has-selector-spec : {M : Type 1} → statement M
+has-selector-spec = tie.close (tie.spec returns setting-of-requires has-requires returns-2)

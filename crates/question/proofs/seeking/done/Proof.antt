@@ -1,10 +1,10 @@
--- `searching::done` meets its contract, by those of the two that it calls.
+-- `seeking::done` meets its contract, by those of the two that it calls.
 use mathlib.Core.Path.{sym, _∙_}
 use mathlib.Core.Bool.{true≢false, false≢true}
 use borrow.Author.Needs.{needs}
 use Rattle.numbers.proofs.Deciding.{T-true}
-use Rattle.question.proofs.searching.done.Statement.{statement}
-use Rattle.question.proofs.searching.done.Tie as tie
+use Rattle.question.proofs.seeking.done.Statement.{statement}
+use Rattle.question.proofs.seeking.done.Tie as tie
 
 fits-requires : tie.Need-fits-requires
 fits-requires c κs = search needs

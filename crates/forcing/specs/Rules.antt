@@ -8,19 +8,20 @@ use lib.Dec.{T}
 use Rattle.setups.specs.Searching.{freeCount}
 use Rattle.setups.specs.declared.Seen.{Seen}
 use Rattle.setups.specs.declared.Seen.the-variants.{AllFalse, OneFree, Enough}
-use Rattle.forcing.specs.Tests.{slot, isTrue}
-use Rattle.forcing.specs.Values.{Decided, Agrees}
-use Rattle.forcing.specs.declared.forcing.Forced.{Forced}
+use Rattle.literals.specs.Slots.{slot, AllSet}
+use Rattle.forcing.specs.Holding.{isTrue}
+use Rattle.forcing.specs.Values.{AgreesWith}
+use Rattle.forcing.specs.declared.forcing.Progress.{Progress}
 
-abbrev pub unmoved : List ℕ → Forced
+abbrev pub unmoved : List ℕ → Progress
 unmoved values = record { fails = false; moved = false; values = values }
 
 -- A step from `now` to r: an answer that agrees with the values of `now` agrees with those of r, and then r does not fail. Where r
 -- has moved and `now` has not, fewer values are free.
-pub record Step (Answer : List ℕ → Type 0) (now r : Forced) : Type 0 where
+pub record KeepsAnswers (Answer : List ℕ → Type 0) (now r : Progress) : Type 0 where
   pub less : freeCount (r .values) ≤ freeCount (now .values)
   pub moves : now .moved ≡ false → r .moved ≡ true → freeCount (r .values) < freeCount (now .values)
-  pub stays : (m : List ℕ) → Decided m → Answer m → Agrees (now .values) m → (r .fails ≡ false) × Agrees (r .values) m
+  pub stays : (m : List ℕ) → AllSet m → Answer m → AgreesWith (now .values) m → (r .fails ≡ false) × AgreesWith (r .values) m
 
 -- what a clause so far says of the truth t, under m, of the literals that it has seen
 abbrev pub Sees : List ℕ → Seen → Bool → Type 0
@@ -33,11 +34,11 @@ example-sees : Sees (0 ∷ 1 ∷ []) (OneFree 2) true
 example-sees = refl
 
 -- its one free literal is free
-abbrev pub Fresh : List ℕ → Seen → Type 0
-Fresh values AllFalse = Unit {0}
-Fresh values (OneFree b) = 1 < getD values (slot b) 0
-Fresh values Enough = Unit {0}
+abbrev pub StillFree : List ℕ → Seen → Type 0
+StillFree values AllFalse = Unit {0}
+StillFree values (OneFree b) = 1 < getD values (slot b) 0
+StillFree values Enough = Unit {0}
 
 -- under m the clause that ends is true
-abbrev pub Ended : List ℕ → Seen → Type 0
-Ended m seen = (t : Bool) × Sees m seen t × T t
+abbrev pub EndsTrue : List ℕ → Seen → Type 0
+EndsTrue m seen = (t : Bool) × Sees m seen t × T t

@@ -1,16 +1,16 @@
--- `searching::settle` meets its contract: whatever settles with the first round settles with the last.
+-- `seeking::all_rounds` meets its contract: whatever advances to the first round advances to the last.
 use mathlib.Core.List.{List}
 use Prim.Native.Nat.{ℕ}
 use native.Mathlib.Omega.{arith}
 use borrow.Author.Needs.{needs}
-use Rattle.question.specs.Searches.{Settles}
-use Rattle.question.proofs.Rounds.{settles-on, left, left-less}
-use Rattle.question.proofs.searching.settle.Statement.{statement}
-use Rattle.question.proofs.searching.settle.Tie as tie
+use Rattle.question.specs.Seeking.{Advances}
+use Rattle.question.proofs.Rounds.{advances-on, left, left-less}
+use Rattle.question.proofs.seeking.all_rounds.Statement.{statement}
+use Rattle.question.proofs.seeking.all_rounds.Tie as tie
 
 abbrev Inv-loop : tie.InvT-loop
 Inv-loop kept hard soft found last₀ last =
-    (values : List ℕ) → Settles kept hard soft found values last₀ → Settles kept hard soft found values last
+    (values : List ℕ) → Advances kept hard soft found values last₀ → Advances kept hard soft found values last
 
 abbrev μ-loop : tie.MeasureT-loop
 μ-loop kept hard soft found last₀ last = left last
@@ -30,10 +30,10 @@ loop-less c =
     (c .one-round2 .ensures)
 
 loop-again : tie.Need-loop-again Inv-loop μ-loop
-loop-again c = λ values s. settles-on _ _ _ _ values _ _ (c .before .before .before .loop .inv values s) (c .one-round2 .ensures)
+loop-again c = λ values s. advances-on _ _ _ _ values _ _ (c .before .before .before .loop .inv values s) (c .one-round2 .ensures)
 
 returns : tie.Need-returns Inv-loop μ-loop
 returns c = c .before .loop .inv _ (c .before .before .one-round .ensures)
 
-pub settle-spec : {M : Type 1} → statement M
-settle-spec = tie.close (tie.spec Inv-loop μ-loop one-round-requires loop-holds one-round-requires-2 loop-less loop-again returns)
+pub all-rounds-spec : {M : Type 1} → statement M
+all-rounds-spec = tie.close (tie.spec Inv-loop μ-loop one-round-requires loop-holds one-round-requires-2 loop-less loop-again returns)
