@@ -20,15 +20,14 @@ use Rattle.setups.specs.declared.Seen.the-variants.{AllFalse}
 use Rattle.literals.specs.Slots.{slot, AllSet}
 use Rattle.forcing.specs.Holding.{isTrue, AllBroken}
 use Rattle.forcing.specs.Values.{AgreesWith}
-use Rattle.forcing.specs.Selectors.{nextSelector, Owes, Owing, OwingBoth}
+use Rattle.forcing.specs.Selectors.{nextSelector, Owes, Owing}
 use Rattle.forcing.specs.Rules.{KeepsAnswers, Sees, StillFree, EndsTrue}
 use Rattle.forcing.specs.declared.forcing.Progress.{Progress}
 use Rattle.forcing.specs.declared.selectors.Owed.{Owed}
-use Rattle.forcing.specs.declared.selectors.Owed.the-variants.{EveryClause, OfSettings}
 use Rattle.forcing.proofs.Verdicts.{verdicts, verdict-clause, verdict-holds, verdicts-length}
 use Rattle.forcing.proofs.Verdicts.{verdicts-end, verdicts-literal, first-fails}
 use Rattle.forcing.proofs.SelectorLaws.{Along, along-starts, along-ends, along-reads, along-inside}
-use Rattle.forcing.proofs.RuleLaws.{answers-still, answers-fewer, answers-then, sees-more, fresh-more}
+use Rattle.forcing.proofs.RuleLaws.{answers-still, answers-then, sees-more, fresh-more}
 
 -- ---- the clauses that are owed
 
@@ -63,7 +62,7 @@ forcing-starts owed bytes earlier n fine e = rw e (record {
   upto = zero-le;
   fine = fine;
   fresh = tt;
-  step = answers-still (λ m. Owing owed (isTrue m) bytes) earlier fine;
+  step = answers-still fine;
   rest = λ m d owing agrees. (false, refl, owed-from owed 0 (verdicts (isTrue m) false (clauses bytes)) (each m owing));
 })
   where
@@ -104,13 +103,8 @@ module _ (owed : Owed) (bytes : List ℕ) (earlier forced : Progress) (seen : Se
         let q = subst (OwedFrom owed n) (verdicts-end (isTrue m) (r .0) bytes i l z) (r .2) in
         ((λ t. (r .0, r .1, q .0 (is .0 (T-true due .0 t)))), q .1)
 
-    both : KeepsAnswers (λ m. Owing owed (isTrue m) bytes) earlier after
-    both =
-        answers-then (λ m. Owing owed (isTrue m) bytes) (λ m. T due → EndsTrue m seen) earlier forced after (at .step) end
-        (λ m d owing agrees. at-end m d owing agrees .0)
-
-    pub forcing-fails : KeepsAnswers (λ m. Owing owed (isTrue m) bytes) earlier after
-    forcing-fails = both
+    pub forcing-on : KeepsAnswers (λ m. Owing owed (isTrue m) bytes) earlier after
+    forcing-on = answers-then (at .step) end (λ m d owing agrees. at-end m d owing agrees .0)
 
     -- the next clause begins
     pub forcing-ends : after .fails ≡ false → (n′ : ℕ) → n′ ≡ nextSelector n → Forcing owed bytes earlier after AllFalse n′ (i + 1)
@@ -118,26 +112,9 @@ module _ (owed : Owed) (bytes : List ℕ) (earlier forced : Progress) (seen : Se
       upto = omega arith;
       fine = fine;
       fresh = tt;
-      step = both;
+      step = forcing-on;
       rest = λ m d owing agrees. (false, refl, at-end m d owing agrees .1);
     })
-
--- ---- the kept settings, then the hard clauses
-
--- the pass over the kept settings alone, where it fails
-pub both-first : (kept : ℕ) (hard soft : List ℕ) (before keeps : Progress) → KeepsAnswers (λ m. Owing (OfSettings kept) (isTrue m) soft) before keeps
-    → KeepsAnswers (λ m. OwingBoth kept (isTrue m) hard soft) before keeps
-both-first kept hard soft before keeps step =
-    answers-fewer (λ m. OwingBoth kept (isTrue m) hard soft) (λ m. Owing (OfSettings kept) (isTrue m) soft) before keeps step
-    (λ m both. both .keeps)
-
--- and the one over the hard clauses after it
-pub both-second : (kept : ℕ) (hard soft : List ℕ) (before keeps rules : Progress)
-    → KeepsAnswers (λ m. Owing (OfSettings kept) (isTrue m) soft) before keeps
-    → KeepsAnswers (λ m. Owing EveryClause (isTrue m) hard) keeps rules → KeepsAnswers (λ m. OwingBoth kept (isTrue m) hard soft) before rules
-both-second kept hard soft before keeps rules first second =
-    answers-then (λ m. OwingBoth kept (isTrue m) hard soft) (λ m. Owing EveryClause (isTrue m) hard) before keeps rules
-    (both-first kept hard soft before keeps first) second (λ m d both agrees. both .rules)
 
 -- ---- the settings that are given up
 
@@ -162,7 +139,7 @@ pub giving-starts : (given : ℕ) (soft : List ℕ) (earlier : Progress) (n : �
 giving-starts given soft earlier n fine e = rw e (record {
   along = along-starts soft 0 refl;
   fine = fine;
-  step = answers-still (λ m. AllBroken given (isTrue m) soft) earlier fine;
+  step = answers-still fine;
   rest = λ m d broken agrees. (
     false,
     λ j l h t.
@@ -206,8 +183,7 @@ module _ (given : ℕ) (soft : List ℕ) (earlier forced : Progress) (n i : ℕ)
       -- a literal of a given-up setting is false in each answer
       pub giving-denies : KeepsAnswers (λ m. AllBroken given (isTrue m) soft) earlier after
       giving-denies =
-          answers-then (λ m. AllBroken given (isTrue m) soft) (λ m. isTrue m (getD soft i 0) ≡ false) earlier forced after (at .step) denies
-          (λ m d broken agrees.
+          answers-then (at .step) denies (λ m d broken agrees.
           let r = past m d broken agrees in
           or-none (r .0) (isTrue m (getD soft i 0))
           (first-fails (isTrue m) (r .0 || isTrue m (getD soft i 0)) (clauses (drop (i + 1) soft))

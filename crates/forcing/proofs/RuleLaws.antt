@@ -1,4 +1,4 @@
--- Steps: one after another, at the end of a clause, and where a literal is denied.
+-- Rules that lose no answer: one after another, at the end of a clause, and where a literal is denied.
 use mathlib.Core.Path.{_≡_, refl, sym, ap, _∙_, subst}
 use mathlib.Core.Bool.{Bool, true, false, _||_, true≢false, or-false, or-self}
 use mathlib.Core.List.{List}
@@ -21,37 +21,37 @@ use Rattle.forcing.specs.Rules.{KeepsAnswers, Sees, StillFree, EndsTrue}
 use Rattle.forcing.specs.declared.forcing.Progress.{Progress}
 use Rattle.forcing.proofs.ValueLaws.{free-set-le, free-set-lt, agrees-set}
 
--- ---- steps
+-- ---- rules
 
--- no step at all
-pub answers-still : (Answer : List ℕ → Type 0) (now : Progress) → now .fails ≡ false → KeepsAnswers Answer now now
-answers-still Answer now fine = record {
+-- no rule at all
+pub answers-still : {Answer : List ℕ → Type 0} {now : Progress} → now .fails ≡ false → KeepsAnswers Answer now now
+answers-still {now = now} fine = record {
   less = le-refl (freeCount (now .values));
   moves = λ f t. absurd (true≢false (sym t ∙ f));
   stays = λ m d a agrees. (fine, agrees);
 }
 
 -- it fails, and no answer agrees
-pub answers-none : (Answer : List ℕ → Type 0) (now : Progress) → ((m : List ℕ) → AllSet m → Answer m → ¬ AgreesWith (now .values) m)
+pub answers-none : {Answer : List ℕ → Type 0} (now : Progress) → ((m : List ℕ) → AllSet m → Answer m → ¬ AgreesWith (now .values) m)
     → KeepsAnswers Answer now (record { fails = true; moved = now .moved; values = now .values })
-answers-none Answer now none = record {
+answers-none now none = record {
   less = le-refl (freeCount (now .values));
   moves = λ f t. absurd (true≢false (sym t ∙ f));
   stays = λ m d a agrees. absurd (none m d a agrees);
 }
 
--- a step keeps the answers of a narrower kind too
-pub answers-fewer : (A B : List ℕ → Type 0) (a b : Progress) → KeepsAnswers B a b → ((m : List ℕ) → A m → B m) → KeepsAnswers A a b
-answers-fewer A B a b step still = record {
+-- a rule keeps the answers of a narrower kind too
+pub answers-fewer : {A B : List ℕ → Type 0} {a b : Progress} → KeepsAnswers B a b → ((m : List ℕ) → A m → B m) → KeepsAnswers A a b
+answers-fewer step still = record {
   less = step .less;
   moves = step .moves;
   stays = λ m d x agrees. step .stays m d (still m x) agrees;
 }
 
--- one step after another, where each answer of the first is one of the second
-pub answers-then : (A B : List ℕ → Type 0) (a b c : Progress) → KeepsAnswers A a b → KeepsAnswers B b c
+-- one rule after another, where each answer of the first is one of the second
+pub answers-then : {A B : List ℕ → Type 0} {a b c : Progress} → KeepsAnswers A a b → KeepsAnswers B b c
     → ((m : List ℕ) → AllSet m → A m → AgreesWith (a .values) m → B m) → KeepsAnswers A a c
-answers-then A B a b c first second still = record {
+answers-then {a = a} {b = b} {c = c} first second still = record {
   less = omega (arith, first .less, second .less);
   moves = moves;
   stays = λ m d x agrees. second .stays m d (still m d x agrees) (first .stays m d x agrees .1);
@@ -103,9 +103,7 @@ module _ (now : Progress) where
   -- wholly false
   pub ends-false : (due : Bool) (seen : Seen) → T due → seen ≡ AllFalse
       → KeepsAnswers (λ m. T due → EndsTrue m seen) now (record { fails = true; moved = now .moved; values = now .values })
-  ends-false due seen d e =
-      answers-none (λ m. T due → EndsTrue m seen) now
-      (λ m _ a _. let end = subst (EndsTrue m) e (a d) in subst T (end .1) (end .2))
+  ends-false due seen d e = answers-none now (λ m _ a _. let end = subst (EndsTrue m) e (a d) in subst T (end .1) (end .2))
 
   -- one free literal
   pub ends-one : (due : Bool) (seen : Seen) (b : ℕ) → T due → seen ≡ OneFree b → StillFree (now .values) seen
@@ -125,8 +123,7 @@ module _ (now : Progress) (b : ℕ) where
   pub denied-true : getD (now .values) (slot b) 0 ≡ wish b
       → KeepsAnswers (λ m. isTrue m b ≡ false) now (record { fails = true; moved = now .moved; values = now .values })
   denied-true e =
-      answers-none (λ m. isTrue m b ≡ false) now
-      (λ m _ a agrees. true≢false (sym (eq-eqb (getD m (slot b) 0) (wish b) (agrees (slot b) (omega (arith, wish-small b)) ∙ e)) ∙ a))
+      answers-none now (λ m _ a agrees. true≢false (sym (eq-eqb (getD m (slot b) 0) (wish b) (agrees (slot b) (omega (arith, wish-small b)) ∙ e)) ∙ a))
 
   -- it is false or free
   pub denied : KeepsAnswers (λ m. isTrue m b ≡ false) now

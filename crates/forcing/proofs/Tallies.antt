@@ -30,8 +30,8 @@ pub record Tallying (test : ℕ → Bool) (soft : List ℕ) (set : ℕ) (sofar :
   pub upto : i ≤ length soft
   pub counts : (j : ℕ) → T (holds test soft j) ↔ (In j set ⊎ Later (verdicts test sofar (clauses (drop i soft))) n j)
 
-pub tallying-starts : (test : ℕ → Bool) (soft : List ℕ) (sofar : Bool) (n : ℕ) → sofar ≡ false → n ≡ 0 → Tallying test soft 0 sofar n 0
-tallying-starts test soft sofar n e z = rw (e, z) (record {
+pub tallying-starts : {test : ℕ → Bool} {soft : List ℕ} {sofar : Bool} {n : ℕ} → sofar ≡ false → n ≡ 0 → Tallying test soft 0 sofar n 0
+tallying-starts {test} {soft} e z = rw (e, z) (record {
   upto = zero-le;
   counts = λ j. Iff·trans (verdict-holds test soft j) (
     (λ h. inr (j, omega arith, h .0, h .1)),
@@ -54,22 +54,20 @@ past-end set set′ n j sofar rest adds = (
     from : Later rest (nextSelector n) j → In j set ⊎ Later (sofar ∷ rest) n j
     from h = inr (suc (h .0), omega (arith, h .1, h .2), h .2, h .3)
 
-module _ (test : ℕ → Bool) (soft : List ℕ) (set : ℕ) (sofar : Bool) (n i : ℕ) (at : Tallying test soft set sofar n i) where
+module _ {test : ℕ → Bool} {soft : List ℕ} {set : ℕ} {sofar : Bool} {n i : ℕ} (at : Tallying test soft set sofar n i) where
   -- the setting at hand ends
-  pub tallying-ends : i < length soft → getD soft i 0 ≡ 0 → (set′ n′ : ℕ) (next-sofar : Bool) → Adds set sofar n set′ → n′ ≡ nextSelector n
-      → next-sofar ≡ false
-      → Tallying test soft set′ next-sofar n′ (i + 1)
-  tallying-ends l z set′ n′ next-sofar adds e f =
-      rw (e, f) (record {
-        upto = omega arith;
-        counts = λ j. Iff·trans (rw (verdicts-end test sofar soft i l z) at (at .counts j))
-            (past-end set set′ n j sofar (verdicts test false (clauses (drop (i + 1) soft))) adds);
-      })
+  pub tallying-ends : i < length soft → getD soft i 0 ≡ 0 → {set′ n′ : ℕ} {next-sofar : Bool} → Adds set sofar n set′ → n′ ≡ nextSelector n
+      → next-sofar ≡ false → Tallying test soft set′ next-sofar n′ (i + 1)
+  tallying-ends l z {set′} adds e f = rw (e, f) (record {
+    upto = omega arith;
+    counts = λ j. Iff·trans (rw (verdicts-end test sofar soft i l z) at (at .counts j))
+        (past-end set set′ n j sofar (verdicts test false (clauses (drop (i + 1) soft))) adds);
+  })
 
   -- it has one literal more
-  pub tallying-reads : i < length soft → getD soft i 0 ≢ 0 → (next-sofar : Bool) → next-sofar ≡ (sofar || test (getD soft i 0))
+  pub tallying-reads : i < length soft → getD soft i 0 ≢ 0 → {next-sofar : Bool} → next-sofar ≡ (sofar || test (getD soft i 0))
       → Tallying test soft set next-sofar n (i + 1)
-  tallying-reads l z next-sofar f =
+  tallying-reads l z f =
       rw f (record { upto = omega arith; counts = λ j. rw (verdicts-literal test sofar soft i l z) at (at .counts j) })
 
   -- the buffer ends
@@ -87,37 +85,27 @@ pub record Counting (values soft : List ℕ) (sure possible : ℕ) (chance : Cha
   pub trues : Tallying (isTrue values) soft sure (chance .sure) n i
   pub opens : Tallying (mayBe values) soft possible (chance .possible) n i
 
-pub standing-starts : (values soft : List ℕ) (chance : Chance) (n : ℕ) → chance ≡ nothingRead → n ≡ 0
-    → Counting values soft 0 0 chance n 0
-standing-starts values soft chance n e z = record {
-  trues = tallying-starts (isTrue values) soft (chance .sure) n (ap (λ (x : Chance). x .sure) e) z;
-  opens = tallying-starts (mayBe values) soft (chance .possible) n (ap (λ (x : Chance). x .possible) e) z;
-}
+pub standing-starts : {values soft : List ℕ} {chance : Chance} {n : ℕ} → chance ≡ nothingRead → n ≡ 0 → Counting values soft 0 0 chance n 0
+standing-starts e z =
+    record { trues = tallying-starts (ap (λ (x : Chance). x .sure) e) z; opens = tallying-starts (ap (λ (x : Chance). x .possible) e) z }
 
-module _ (values soft : List ℕ) (sure possible : ℕ) (chance : Chance) (n i : ℕ) (at : Counting values soft sure possible chance n i) where
-  pub standing-ends : i < length soft → getD soft i 0 ≡ 0 → (sure′ possible′ n′ : ℕ) (chance′ : Chance)
+module _ {values soft : List ℕ} {sure possible : ℕ} {chance : Chance} {n i : ℕ} (at : Counting values soft sure possible chance n i) where
+  pub standing-ends : i < length soft → getD soft i 0 ≡ 0 → {sure′ possible′ n′ : ℕ} {chance′ : Chance}
       → Adds sure (chance .sure) n sure′ → Adds possible (chance .possible) n possible′ → n′ ≡ nextSelector n → chance′ ≡ nothingRead
       → Counting values soft sure′ possible′ chance′ n′ (i + 1)
-  standing-ends l z sure′ possible′ n′ chance′ a b e f = record {
-    trues = tallying-ends (isTrue values) soft sure (chance .sure) n i (at .trues) l z sure′ n′ (chance′ .sure) a e
-        (ap (λ (x : Chance). x .sure) f);
-    opens = tallying-ends (mayBe values) soft possible (chance .possible) n i (at .opens) l z possible′ n′ (chance′ .possible) b e
-        (ap (λ (x : Chance). x .possible) f);
+  standing-ends l z a b e f = record {
+    trues = tallying-ends (at .trues) l z a e (ap (λ (x : Chance). x .sure) f);
+    opens = tallying-ends (at .opens) l z b e (ap (λ (x : Chance). x .possible) f);
   }
 
-  pub standing-reads : i < length soft → getD soft i 0 ≢ 0 → (p : ℕ) → p ≡ slot (getD soft i 0) → (chance′ : Chance)
+  pub standing-reads : i < length soft → getD soft i 0 ≢ 0 → {p : ℕ} → p ≡ slot (getD soft i 0) → {chance′ : Chance}
       → chance′ ≡ looked chance (getD soft i 0) (getD values p 0) → Counting values soft sure possible chance′ n (i + 1)
-  standing-reads l z p s chance′ f =
+  standing-reads l z s {chance′} f =
       let g : chance′ ≡ looked chance (getD soft i 0) (getD values (slot (getD soft i 0)) 0) = rw (← s) f in
       record {
-        trues = tallying-reads (isTrue values) soft sure (chance .sure) n i (at .trues) l z (chance′ .sure)
-            (ap (λ (x : Chance). x .sure) g);
-        opens = tallying-reads (mayBe values) soft possible (chance .possible) n i (at .opens) l z (chance′ .possible)
-            (ap (λ (x : Chance). x .possible) g);
+        trues = tallying-reads (at .trues) l z (ap (λ (x : Chance). x .sure) g);
+        opens = tallying-reads (at .opens) l z (ap (λ (x : Chance). x .possible) g);
       }
 
   pub standing-done : length soft ≤ i → Stands values soft (record { sure = sure; possible = possible })
-  standing-done l = record {
-    sure = tallying-done (isTrue values) soft sure (chance .sure) n i (at .trues) l;
-    possible = tallying-done (mayBe values) soft possible (chance .possible) n i (at .opens) l;
-  }
+  standing-done l = record { sure = tallying-done (at .trues) l; possible = tallying-done (at .opens) l }

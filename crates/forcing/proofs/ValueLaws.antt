@@ -3,7 +3,7 @@ use mathlib.Core.Path.{_≡_, refl, sym, _∙_, subst}
 use mathlib.Core.Logic.{_≢_, by-cases}
 use mathlib.Core.List.{List, [], _∷_, _++_}
 use Prim.Native.Nat.{ℕ, zero, suc, _+_, _-_, _≤_, _<_, zero-le, suc-le-suc}
-use native.Mathlib.Nat.{not-suc-le-zero}
+use native.Mathlib.Nat.{not-suc-le-zero, suc-inj, suc-ne-zero}
 use native.Mathlib.Decide.{ℕ-discrete}
 use native.Mathlib.Omega.{arith}
 use borrow.Author.Tests.{le-ltb}
@@ -11,7 +11,6 @@ use lib.ListN.{length, getD, set, replicate, length-set}
 use lib.Seq.{getD-set-same, getD-set-other}
 use Rattle.numbers.proofs.Places.{zeros-at}
 use Rattle.setups.specs.Limits.{variablesMost}
-use Rattle.literals.specs.Slots.{opening}
 use Rattle.setups.specs.Searching.{freeCount}
 use Rattle.setups.proofs.Scanning.{free-set}
 use Rattle.literals.proofs.SlotLaws.{all-set}
@@ -41,17 +40,13 @@ agrees-set (y ∷ values) (z ∷ m) (suc p) x a e (suc i) h = agrees-set values 
 
 -- ---- the values that a search starts from
 
--- the first n places are free, and what is not free is 0
-abbrev pub Opens : ℕ → List ℕ → Type 0
-Opens n values = (i : ℕ) → getD values i 0 < 2 → (n ≤ i) × (getD values i 0 ≡ 0)
-
-opens-on : (n k : ℕ) → Opens n (replicate n 2 ++ replicate k 0)
-opens-on zero k i h = (zero-le, zeros-at k i)
-opens-on (suc n) k zero h = absurd (let b : ⊥ = omega arith in b)
-opens-on (suc n) k (suc i) h = let o = opens-on n k i h in (suc-le-suc (o .0), o .1)
-
-pub opens : (n : ℕ) (values : List ℕ) → values ≡ opening n → Opens n values
-opens n values e = rw e (opens-on n (variablesMost - n))
+-- every assignment of n variables agrees with n free values and zeros
+pub agrees-opening : (n k : ℕ) (m : List ℕ) → length m ≡ n → AgreesWith (replicate n 2 ++ replicate k 0) m
+agrees-opening zero k [] e i h = sym (zeros-at k i)
+agrees-opening zero k (x ∷ m) e i h = absurd (suc-ne-zero (length m) e)
+agrees-opening (suc n) k [] e i h = absurd (suc-ne-zero n (sym e))
+agrees-opening (suc n) k (x ∷ m) e zero h = absurd (let b : ⊥ = omega arith in b)
+agrees-opening (suc n) k (x ∷ m) e (suc i) h = agrees-opening n k m (suc-inj e) i h
 
 -- ---- free values become 0
 

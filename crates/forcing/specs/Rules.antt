@@ -16,7 +16,7 @@ use Rattle.forcing.specs.declared.forcing.Progress.{Progress}
 abbrev pub unmoved : List ℕ → Progress
 unmoved values = record { fails = false; moved = false; values = values }
 
--- A step from `now` to r: an answer that agrees with the values of `now` agrees with those of r, and then r does not fail. Where r
+-- From `now` to r: an answer that agrees with the values of `now` agrees with those of r, and then r does not fail. Where r
 -- has moved and `now` has not, fewer values are free.
 pub record KeepsAnswers (Answer : List ℕ → Type 0) (now r : Progress) : Type 0 where
   pub less : freeCount (r .values) ≤ freeCount (now .values)

@@ -26,17 +26,25 @@ unfolding between
 example-pairs = (refl, refl)
 
 -- the place after a frame's line: two digits a byte, and LF
-abbrev pub after : ℕ → Frame → ℕ
-after at f = at + (2 * length (frameBytes f) + 1)
+abbrev pub placeAfter : ℕ → Frame → ℕ
+placeAfter at f = at + (2 * length (frameBytes f) + 1)
 
 -- a frame at a place of the text: the variable count, or how many literals there are, and the place after its line
 abbrev pub found : ℕ → Frame → Found
-found at (header count) = Header count (after at (header count))
-found at (hard literals) = Hard (length literals) (after at (hard literals))
-found at (soft literals) = Soft (length literals) (after at (soft literals))
-found at end = End (after at end)
+found at (header count) = Header count (placeAfter at (header count))
+found at (hard literals) = Hard (length literals) (placeAfter at (hard literals))
+found at (soft literals) = Soft (length literals) (placeAfter at (soft literals))
+found at end = End (placeAfter at end)
 found at noFrame = NoFrame
 
 -- the frame of the line that begins at `at`
 unfoldable pub foundAt : List ℕ → ℕ → Found
 foundAt text at = found at (frame (getD (lines (drop at text)) 0 []))
+
+-- where a reader goes on that found this at `at`: where no frame stands, it stays
+abbrev pub nextPlace : ℕ → Found → ℕ
+nextPlace at (Header count next) = next
+nextPlace at (Hard literals next) = next
+nextPlace at (Soft literals next) = next
+nextPlace at (End next) = next
+nextPlace at NoFrame = at

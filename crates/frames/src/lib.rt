@@ -9,4 +9,4 @@ pub use frames::HEADER;
 pub use frames::HEADER_LINE;
 pub use frames::LINE_FEED;
 pub use frames::SOFT;
-pub use reader::frame_at;
+pub use reader::FrameReader;

@@ -7,13 +7,13 @@ use Prim.Native.Nat.{ℕ, _-_, _^_, _<_, min}
 use native.Mathlib.Omega.{arith}
 use lib.Bits.{bitAnd}
 use lib.Dec.{T}
-use lib.ListN.{length, getD, take, length-take, List·getD-eq-default}
+use lib.ListN.{length, getD, take, length-take}
 use lib.Pow.{pow-pos}
 use lib.Seq.{getD-take}
 use Rattle.sets.specs.Sets.{In, Within}
 use Rattle.sets.proofs.Digits.{within-le, full-in, and-in}
 use Rattle.sets.proofs.Tests.{has-in, in-has}
-use Rattle.setups.specs.Limits.{settingsMost}
+use Rattle.setups.specs.Limits.{variablesMost, settingsMost}
 use Rattle.setups.specs.Clauses.{Assigns}
 use Rattle.setups.specs.Setups.{Setup, count, SettingTrue}
 use Rattle.setups.specs.Taken.{Taken}
@@ -25,7 +25,7 @@ use Rattle.forcing.specs.Rules.{KeepsAnswers, unmoved}
 use Rattle.forcing.specs.Standings.{Stands}
 use Rattle.forcing.specs.declared.forcing.Progress.{Progress}
 use Rattle.forcing.specs.declared.standing.Standing.{Standing}
-use Rattle.forcing.proofs.ValueLaws.{opens}
+use Rattle.forcing.proofs.ValueLaws.{agrees-opening}
 use Rattle.question.specs.Question.{Meets, Breaks, Says}
 use Rattle.question.specs.Seeking.{Fulfils, Seeks}
 use Rattle.question.specs.declared.Reply.the-variants.{Yes, No}
@@ -69,9 +69,7 @@ module _ (g : Setup) (taken : Taken g) (all : ℕ) (every : all ≡ 2 ^ min (cou
       }
 
       agrees : (start : List ℕ) → start ≡ opening (g .variables) → AgreesWith start m
-      agrees start is i h =
-          let o = opens (g .variables) start is i h in
-          List·getD-eq-default m 0 {n = i} (omega (arith, o .0, meets .models .assigns .size)) ∙ sym (o .1)
+      agrees start is = rw is (agrees-opening (g .variables) (variablesMost - g .variables) m (meets .models .assigns .size))
 
       broken : Breaks g given m → AllBroken (bitAnd given all) (isTrue m) (g .soft)
       broken breaks i h t = let k = there given i .0 h in breaks i (k .1) (k .0) (truly i .0 t .1)

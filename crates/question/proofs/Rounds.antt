@@ -24,7 +24,6 @@ use Rattle.forcing.specs.declared.forcing.Progress.{Progress}
 use Rattle.forcing.specs.declared.selectors.Owed.the-variants.{OfSettings}
 use Rattle.forcing.specs.declared.standing.Standing.{Standing}
 use Rattle.forcing.proofs.Verdicts.{verdict-clause, verdict-holds}
-use Rattle.forcing.proofs.RuleLaws.{answers-fewer}
 use Rattle.question.specs.Seeking.{Fulfils, failing, Advances}
 use Rattle.question.specs.declared.seeking.Round.{Round}
 use Rattle.question.proofs.TestLaws.{holds-more, each-passes, true-may}
@@ -32,9 +31,9 @@ use Rattle.question.proofs.TestLaws.{holds-more, each-passes, true-may}
 -- ---- what is asked, as the passes take it
 
 -- each kept setting's clause is owed, and each hard clause
-fulfils-both : (kept : ℕ) (hard soft found : List ℕ) (test : ℕ → Bool) → kept < 2 ^ settingsMost → Fulfils kept hard soft found test
+pub fulfils-both : {kept : ℕ} {hard soft found : List ℕ} {test : ℕ → Bool} → kept < 2 ^ settingsMost → Fulfils kept hard soft found test
     → OwingBoth kept test hard soft
-fulfils-both kept hard soft found test small asked = record { keeps = keeps; rules = λ i l h. each-passes test (clauses hard) (asked .rules) i l }
+fulfils-both {kept} {hard} {soft} {test = test} small asked = record { keeps = keeps; rules = λ i l h. each-passes test (clauses hard) (asked .rules) i l }
   where
     keeps : Owing (OfSettings kept) test soft
     keeps i l h =
@@ -42,17 +41,9 @@ fulfils-both kept hard soft found test small asked = record { keeps = keeps; rul
         let held = asked .fit .keeps i (subst (λ (x : ℕ). In x kept) e h) in
         subst T (verdict-clause test (clauses soft) i) (verdict-holds test soft i .0 held .1)
 
--- both passes keep what answers the question
-pub fulfils-step : (kept : ℕ) (hard soft found values : List ℕ) (forced : Progress) → kept < 2 ^ settingsMost
-    → KeepsAnswers (λ m. OwingBoth kept (isTrue m) hard soft) (unmoved values) forced
-    → KeepsAnswers (λ m. Fulfils kept hard soft found (isTrue m)) (unmoved values) forced
-fulfils-step kept hard soft found values forced small step =
-    answers-fewer (λ m. Fulfils kept hard soft found (isTrue m)) (λ m. OwingBoth kept (isTrue m) hard soft) (unmoved values) forced step
-    (λ m asked. fulfils-both kept hard soft found (isTrue m) small asked)
-
 -- ---- one round
 
-module _ (kept : ℕ) (hard soft found values : List ℕ) where
+module _ {kept : ℕ} {hard soft found values : List ℕ} where
   -- it fails, and there is no answer
   advances-failing : (w : List ℕ) → freeCount w ≤ freeCount values
       → ((m : List ℕ) → AllSet m → Fulfils kept hard soft found (isTrue m) → ¬ AgreesWith values m)
@@ -66,13 +57,13 @@ module _ (kept : ℕ) (hard soft found values : List ℕ) where
   }
 
   -- a pass fails
-  pub advances-stuck : (forced : Progress) → KeepsAnswers (λ m. Fulfils kept hard soft found (isTrue m)) (unmoved values) forced → forced .fails ≡ true
+  pub advances-stuck : {forced : Progress} → KeepsAnswers (λ m. Fulfils kept hard soft found (isTrue m)) (unmoved values) forced → forced .fails ≡ true
       → Advances kept hard soft found values (failing (forced .values) kept)
-  advances-stuck forced step fails =
+  advances-stuck {forced} step fails =
       advances-failing (forced .values) (step .less) (λ m d asked agrees. true≢false (sym fails ∙ step .stays m d asked agrees .0))
 
-  module _ (forced : Progress) (step : KeepsAnswers (λ m. Fulfils kept hard soft found (isTrue m)) (unmoved values) forced)
-      (standing : Standing) (stands : Stands (forced .values) soft standing) where
+  module _ {forced : Progress} (step : KeepsAnswers (λ m. Fulfils kept hard soft found (isTrue m)) (unmoved values) forced)
+      {standing : Standing} (stands : Stands (forced .values) soft standing) where
     -- a round that does not fail
     abbrev ends : Bool → ℕ → Round
     ends moved wider = record { fails = false; moved = moved; kept = wider; standing = standing; values = forced .values }
@@ -83,7 +74,7 @@ module _ (kept : ℕ) (hard soft found values : List ℕ) where
         has-in (standing .possible) i
         (subst T (sym (stands .possible i)) (holds-more (isTrue m) (mayBe (forced .values)) (true-may (forced .values) m agrees) soft i t))
 
-    module _ (narrowed : Narrowed) (narrows : Narrows kept (standing .possible) found narrowed) where
+    module _ {narrowed : Narrowed} (narrows : Narrows kept (standing .possible) found narrowed) where
       narrowed-for : (m : List ℕ) → AllSet m → Fulfils kept hard soft found (isTrue m) → AgreesWith values m
           → (narrowed .fails ≡ false) × Each (narrowed .kept) (holds (isTrue m) soft)
       narrowed-for m d asked agrees =
@@ -117,32 +108,24 @@ module _ (kept : ℕ) (hard soft found values : List ℕ) where
 -- ---- one round after another
 
 -- what is asked, with more kept that holds
-pub fulfils-wider : (kept wider : ℕ) (hard soft found : List ℕ) (test : ℕ → Bool) → Fulfils kept hard soft found test
-    → Each wider (holds test soft)
-    → Fulfils wider hard soft found test
-fulfils-wider kept wider hard soft found test asked each =
-    record { rules = asked .rules; fit = record { keeps = each; each = asked .fit .each } }
+pub fulfils-wider : {kept wider : ℕ} {hard soft found : List ℕ} {test : ℕ → Bool} → Fulfils kept hard soft found test
+    → Each wider (holds test soft) → Fulfils wider hard soft found test
+fulfils-wider asked each = record { rules = asked .rules; fit = record { keeps = each; each = asked .fit .each } }
 
 -- and with less kept
-pub fulfils-narrower : (kept wider : ℕ) (hard soft found : List ℕ) (test : ℕ → Bool) → Within kept wider → Fulfils wider hard soft found test
+pub fulfils-narrower : {kept wider : ℕ} {hard soft found : List ℕ} {test : ℕ → Bool} → Within kept wider → Fulfils wider hard soft found test
     → Fulfils kept hard soft found test
-fulfils-narrower kept wider hard soft found test w asked = record {
-  rules = asked .rules;
-  fit = record { keeps = λ i h. asked .fit .keeps i (w i h); each = asked .fit .each };
-}
+fulfils-narrower w asked = fulfils-wider asked (λ i h. asked .fit .keeps i (w i h))
 
-module _ (kept : ℕ) (hard soft found values : List ℕ) (r s : Round) (first : Advances kept hard soft found values r)
-    (second : Advances (r .kept) hard soft found (r .values) s) where
-  pub advances-on : Advances kept hard soft found values s
-  advances-on = record {
-    less = omega (arith, first .less, second .less);
-    grows = within-trans kept (r .kept) (s .kept) (first .grows) (second .grows);
-    moves = λ t. omega (arith, first .less, second .moves t, within-le kept (r .kept) (first .grows));
-    stands = second .stands;
-    stays = λ m d asked agrees.
-        let was = first .stays m d asked agrees in
-        second .stays m d (fulfils-wider kept (r .kept) hard soft found (isTrue m) asked (was .2)) (was .1);
-  }
+pub advances-on : {kept : ℕ} {hard soft found values : List ℕ} {r s : Round} → Advances kept hard soft found values r
+    → Advances (r .kept) hard soft found (r .values) s → Advances kept hard soft found values s
+advances-on {kept} {r = r} {s = s} first second = record {
+  less = omega (arith, first .less, second .less);
+  grows = within-trans kept (r .kept) (s .kept) (first .grows) (second .grows);
+  moves = λ t. omega (arith, first .less, second .moves t, within-le kept (r .kept) (first .grows));
+  stands = second .stands;
+  stays = λ m d asked agrees. let was = first .stays m d asked agrees in second .stays m d (fulfils-wider asked (was .2)) (was .1);
+}
 
 -- how much is left to do: values to set and settings to keep, and a last round
 abbrev pub left : Round → ℕ

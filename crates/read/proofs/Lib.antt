@@ -2,10 +2,12 @@
 
 -- the fold over a text's lines
 mod Following
--- the checking pass
-mod Checking
--- the filling pass
+-- a pass over the text
+mod Passing
+-- what the filling pass copies
 mod Filling
+-- a buffer that is lent again for a call
+mod Again
 -- from the two passes to Read's answer
 pub mod Answers
 -- which texts are read, no second result, and programs that the promise rejects

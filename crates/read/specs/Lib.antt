@@ -1,3 +1,4 @@
--- What a good text is, Read's answer as the result that document 01 describes, and its promise.
+-- What a good text is, a pass over it in numbers, Read's answer as the result that document 01 describes, and its promise.
 pub mod Texts
+pub mod Passes
 pub mod Read

@@ -1,15 +1,15 @@
-// Read: the whole text is judged before the first byte goes out.
+// Read: two passes over the text, by the same walk. The whole text is judged before the first byte goes out.
 use digits::byte_at;
 use frames::Found;
-use frames::HEADER_LINE;
-use frames::frame_at;
+use frames::FrameReader;
 use setups::Refusal;
 ghost use mathlib.Core.Path.{_≡_};
-ghost use Prim.Native.Nat.{_+_, _*_, _<_, _≤_};
+ghost use Prim.Native.Nat.{_+_, _*_, _^_, _<_, _≤_};
 ghost use lib.ListN.{length, drop};
 ghost use lib.Seq.{sets};
-ghost use Rattle.frames.specs.Found.{bytesFrom};
-ghost use Rattle.read.specs.Texts.{ending, afterHeader, judge, hardOf, softOf, checked, Held};
+ghost use Rattle.frames.specs.Found.{bytesFrom, foundAt};
+ghost use Rattle.read.specs.Texts.{ending, judge, hardOf, softOf, checked};
+ghost use Rattle.read.specs.Passes.{advance, grown, literalCount, hardPlace, softPlace, hardBytes, softBytes, copied, Fits, Allowed};
 ghost use Rattle.read.specs.Read.{Reads};
 
 // How many bytes a text has at the most.
@@ -27,54 +27,81 @@ enum Checked {
     },
 }
 
-// The lines after the header, which ends at `from`: clause frames in any mixture, then FF, and nothing after it.
-fn check_clauses(text: &[u8], from: usize, count: u32) -> Checked
-    ensures { λ r. ⌜ r ≡ checked (afterHeader count (drop from (now (text .entry)))) ⌝ }
-{
-    let mut hard_filled = 0;
-    let mut soft_filled = 0;
-    let mut line = 2;
-    let mut at = from;
-    while at < text.len() {
-        match frame_at(text, at) {
-            Found::Hard { literals, next } => {
-                hard_filled += literals + 1;
-                at = next;
-            }
-            Found::Soft { literals, next } => {
-                soft_filled += literals + 1;
-                at = next;
-            }
-            Found::End { next } => {
-                if next < text.len() {
-                    return Checked::Bad { line: line + 1 };
-                }
-                return Checked::Good {
-                    count,
-                    hard_filled,
-                    soft_filled,
-                };
-            }
-            Found::Header { count: _, next: _ } => {
-                return Checked::Bad { line };
-            }
-            Found::NoFrame => {
-                return Checked::Bad { line };
-            }
-        }
-        line += 1;
-    }
-    Checked::Bad { line }
+// What a pass over the lines has come to: no line yet; or the header, with its variable count, then how many bytes the clauses
+// take in each buffer, and the number of the line to come.
+enum Progress {
+    Fresh,
+    Under {
+        count: u32,
+        hards: usize,
+        softs: usize,
+        line: usize,
+    },
 }
 
-// The whole text: the header first, and once.
-fn check(text: &[u8]) -> Checked
-    ensures { λ r. ⌜ r ≡ checked (judge (now (text .entry))) ⌝ }
+// After a line the pass goes on, or is over.
+enum Advance {
+    On(Progress),
+    Over(Checked),
+}
+
+// The pass with what stands on the line to come, in a text of `size` bytes: the header first, and once, then clause frames in
+// any mixture, then FF, and nothing after it.
+fn advanced(progress: Progress, found: Found, size: usize) -> Advance
+    requires { ⌜ grown progress + literalCount found + 1 < 2 ^ 64 ⌝ }
+    ensures { λ r. ⌜ r ≡ advance progress found size ⌝ }
 {
-    let Found::Header { count, next } = frame_at(text, 0) else {
-        return Checked::Bad { line: 1 };
-    };
-    check_clauses(text, next, count)
+    match progress {
+        Progress::Fresh => match found {
+            Found::Header { count, next: _ } => Advance::On(Progress::Under {
+                count,
+                hards: 0,
+                softs: 0,
+                line: 2,
+            }),
+            Found::Hard {
+                literals: _,
+                next: _,
+            } => Advance::Over(Checked::Bad { line: 1 }),
+            Found::Soft {
+                literals: _,
+                next: _,
+            } => Advance::Over(Checked::Bad { line: 1 }),
+            Found::End { next: _ } => Advance::Over(Checked::Bad { line: 1 }),
+            Found::NoFrame => Advance::Over(Checked::Bad { line: 1 }),
+        },
+        Progress::Under {
+            count,
+            hards,
+            softs,
+            line,
+        } => match found {
+            Found::Header { count: _, next: _ } => Advance::Over(Checked::Bad { line }),
+            Found::Hard { literals, next: _ } => Advance::On(Progress::Under {
+                count,
+                hards: hards + (literals + 1),
+                softs,
+                line: line + 1,
+            }),
+            Found::Soft { literals, next: _ } => Advance::On(Progress::Under {
+                count,
+                hards,
+                softs: softs + (literals + 1),
+                line: line + 1,
+            }),
+            Found::End { next } => {
+                if next < size {
+                    return Advance::Over(Checked::Bad { line: line + 1 });
+                }
+                Advance::Over(Checked::Good {
+                    count,
+                    hard_filled: hards,
+                    soft_filled: softs,
+                })
+            }
+            Found::NoFrame => Advance::Over(Checked::Bad { line }),
+        },
+    }
 }
 
 // Copies `count` bytes, whose digits begin at `from`, to a place of the buffer, and a 0 after them.
@@ -94,29 +121,87 @@ fn copy_clause(text: &[u8], from: usize, count: usize, buffer: &mut [u8], place:
     buffer[to] = 0;
 }
 
-// Fills the buffers with the clauses of a good text.
-fn fill(text: &[u8], hard: &mut [u8], soft: &mut [u8])
-    requires { ⌜ Held (now text) (now hard) (now soft) ⌝ }
-    ensures { λ _. ⌜ (now (hard .exit) ≡ sets (now (hard .entry)) 0 (hardOf (judge (now (text .entry))))) × (now (soft .exit) ≡ sets (now (soft .entry)) 0 (softOf (judge (now (text .entry))))) ⌝ }
+// What a pass over the text is for: the first checks it, the second fills the buffers.
+enum Pass {
+    Check,
+    Fill,
+}
+
+// Where the next hard clause goes in its buffer, and the next soft one.
+fn hard_place(progress: Progress) -> usize
+    ensures { λ r. ⌜ r ≡ hardPlace progress ⌝ }
 {
-    let mut at = HEADER_LINE;
-    let mut hards = 0;
-    let mut softs = 0;
+    match progress {
+        Progress::Fresh => 0,
+        Progress::Under {
+            count: _,
+            hards,
+            softs: _,
+            line: _,
+        } => hards,
+    }
+}
+
+fn soft_place(progress: Progress) -> usize
+    ensures { λ r. ⌜ r ≡ softPlace progress ⌝ }
+{
+    match progress {
+        Progress::Fresh => 0,
+        Progress::Under {
+            count: _,
+            hards: _,
+            softs,
+            line: _,
+        } => softs,
+    }
+}
+
+// The pass with the frame that was found at `at`: where it fills, a clause is copied to its buffer.
+fn pass_frame(
+    pass: Pass,
+    progress: Progress,
+    text: &[u8],
+    at: usize,
+    found: Found,
+    hard: &mut [u8],
+    soft: &mut [u8],
+) -> Advance
+    requires { ⌜ (grown progress + literalCount found + 1 < 2 ^ 64) × (found ≡ foundAt (now text) at) × Fits pass progress (now text) at found (now hard) (now soft) ⌝ }
+    ensures { λ r. ⌜ (r ≡ advance progress found (length (now (text .entry)))) × (now (hard .exit) ≡ sets (now (hard .entry)) (hardPlace progress) (copied pass (hardBytes (now (text .entry)) at found))) × (now (soft .exit) ≡ sets (now (soft .entry)) (softPlace progress) (copied pass (softBytes (now (text .entry)) at found))) ⌝ }
+{
+    let advance = advanced(progress, found, text.len());
+    match pass {
+        Pass::Check => {}
+        Pass::Fill => match found {
+            Found::Hard { literals, next: _ } => {
+                copy_clause(text, at + 2, literals, hard, hard_place(progress));
+            }
+            Found::Soft { literals, next: _ } => {
+                copy_clause(text, at + 2, literals, soft, soft_place(progress));
+            }
+            Found::Header { count: _, next: _ } => {}
+            Found::End { next: _ } => {}
+            Found::NoFrame => {}
+        },
+    }
+    advance
+}
+
+// A pass over the whole text, one frame at a time.
+fn pass_over(text: &[u8], pass: Pass, hard: &mut [u8], soft: &mut [u8]) -> Checked
+    requires { ⌜ Allowed pass (now text) (now hard) (now soft) ⌝ }
+    ensures { λ r. ⌜ (r ≡ checked (judge (now (text .entry)))) × (now (hard .exit) ≡ sets (now (hard .entry)) 0 (copied pass (hardOf (judge (now (text .entry)))))) × (now (soft .exit) ≡ sets (now (soft .entry)) 0 (copied pass (softOf (judge (now (text .entry)))))) ⌝ }
+{
+    let mut reader = FrameReader::new(text);
+    let mut progress = Progress::Fresh;
     loop {
-        match frame_at(text, at) {
-            Found::Hard { literals, next } => {
-                copy_clause(text, at + 2, literals, hard, hards);
-                hards += literals + 1;
-                at = next;
+        let at = reader.at;
+        match pass_frame(pass, progress, text, at, reader.next(), hard, soft) {
+            Advance::On(next) => {
+                progress = next;
             }
-            Found::Soft { literals, next } => {
-                copy_clause(text, at + 2, literals, soft, softs);
-                softs += literals + 1;
-                at = next;
-            }
-            // FF: no other frame can stand here in a good text
-            Found::Header { count: _, next: _ } | Found::End { next: _ } | Found::NoFrame => {
-                return;
+            Advance::Over(checked) => {
+                return checked;
             }
         }
     }
@@ -139,7 +224,7 @@ pub fn read(text: &[u8], hard: &mut [u8], soft: &mut [u8]) -> Reading
     if TEXT_MOST < text.len() {
         return Reading::Refused(Refusal::Size);
     }
-    match check(text) {
+    match pass_over(text, Pass::Check, hard, soft) {
         Checked::Bad { line: _ } => Reading::Refused(Refusal::Frame),
         Checked::Good {
             count,
@@ -152,7 +237,7 @@ pub fn read(text: &[u8], hard: &mut [u8], soft: &mut [u8]) -> Reading
             if soft.len() < soft_filled {
                 return Reading::Refused(Refusal::Room);
             }
-            fill(text, hard, soft);
+            pass_over(text, Pass::Fill, hard, soft);
             Reading::Read {
                 count,
                 hard_filled,

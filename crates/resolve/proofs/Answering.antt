@@ -23,7 +23,7 @@ use Rattle.turn.specs.declared.Turning.{Turning}
 use Rattle.turn.specs.declared.Turning.the-variants.{Listed as TurnListed, Refused as TurnRefused}
 use Rattle.read.specs.declared.Reading.{Reading}
 use Rattle.read.specs.declared.Reading.the-variants.{Read, Refused as ReadRefused}
-use Rattle.read.specs.Read.{ReadResult, readingOf}
+use Rattle.read.specs.Read.{ReadResult, answered as readAnswered}
 use Rattle.lines.specs.Lines.{answerLines, refusalLines}
 use Rattle.resolve.specs.Resolve.{places, scratchPlaces, reading, setupRead, listedLines, Answers, Resolves}
 use Rattle.resolve.specs.Parts.{AnswersTurn}
@@ -77,10 +77,10 @@ module _ (n : ℕ) (hard soft : List ℕ) (answer : Listing) (list′ scratch′
 
 -- ---- after Read
 
-module _ (text : List ℕ) (answer : Reading) (hard soft : List ℕ) (p : readingOf answer hard soft ≡ reading text) where
+module _ (text : List ℕ) (answer : Reading) (hard soft : List ℕ) (p : readAnswered answer hard soft ≡ reading text) where
   pub read-refused : (refusal : Refusal) (number : ℕ) → answer ≡ ReadRefused refusal → number ≡ numberOf refusal → Resolves text (refusalLines number)
   read-refused refusal number e q =
-      let r : readingOf (ReadRefused refusal) hard soft ≡ reading text = rw e at p in
+      let r : readAnswered (ReadRefused refusal) hard soft ≡ reading text = rw e at p in
       let g = setupRead (reading text) in
       let found = lists-exist (g .variables) (g .hard) (g .soft) (places setsMost) (places scratchPlaces) in
       let turned = turns-exist (count g) (listedSets (found .0)) (places setsMost) (found .0 .scratch) in
@@ -94,7 +94,7 @@ module _ (text : List ℕ) (answer : Reading) (hard soft : List ℕ) (p : readin
   pub read-read : (variables hardFilled softFilled : ℕ) → answer ≡ Read variables hardFilled softFilled → (lines : List ℕ)
       → Answers (setup variables (take hardFilled hard) (take softFilled soft)) lines → Resolves text lines
   read-read variables hardFilled softFilled e lines a =
-      let r : readingOf (Read variables hardFilled softFilled) hard soft ≡ reading text = rw e at p in
+      let r : readAnswered (Read variables hardFilled softFilled) hard soft ≡ reading text = rw e at p in
       record {
         answer = lines;
         answers = subst (λ (x : ReadResult). Answers (setupRead x) lines) r a;

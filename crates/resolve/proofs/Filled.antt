@@ -22,7 +22,7 @@ use Rattle.turn.specs.declared.Turning.the-variants.{Listed as TurnListed}
 use Rattle.read.specs.declared.Reading.{Reading}
 use Rattle.read.specs.declared.Reading.the-variants.{Read}
 use Rattle.read.specs.Texts.{judge, hardOf, softOf}
-use Rattle.read.specs.Read.{ReadResult, readingOf, readRefusal, filledWith, readResult}
+use Rattle.read.specs.Read.{ReadResult, answered as readAnswered, readRefusal, filledWith, readResult}
 
 -- the places that a finished job has filled are places of its list
 held-places : {P : ℕ → Type 0} {list scratch : List ℕ} {r : ListResult} → HoldsExactly P list scratch r → r .filled ≤ length (r .list)
@@ -59,7 +59,7 @@ read-fits text hard soft r e =
     (cond-case ReadFits (eqb (readRefusal text (length hard) (length soft)) 0)
     (λ q. (filled-fits (hardOf (judge text)) hard, filled-fits (softOf (judge text)) soft)) (λ q. (zero-le, zero-le)))
 
-pub read-places : (text hard soft : List ℕ) (answer : Reading) (hard′ soft′ : List ℕ) → readingOf answer hard′ soft′ ≡ readResult text hard soft
+pub read-places : (text hard soft : List ℕ) (answer : Reading) (hard′ soft′ : List ℕ) → readAnswered answer hard′ soft′ ≡ readResult text hard soft
     → (variables hardFilled softFilled : ℕ) → answer ≡ Read variables hardFilled softFilled → (hardFilled ≤ length hard′) × (softFilled ≤ length soft′)
 read-places text hard soft answer hard′ soft′ p variables hardFilled softFilled e =
-    read-fits text hard soft (readingOf (Read variables hardFilled softFilled) hard′ soft′) (rw e at p)
+    read-fits text hard soft (readAnswered (Read variables hardFilled softFilled) hard′ soft′) (rw e at p)

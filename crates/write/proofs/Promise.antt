@@ -10,17 +10,17 @@ use Rattle.digits.specs.Digits.{digitOf}
 use Rattle.write.specs.declared.Writing.{Writing}
 use Rattle.write.specs.declared.Writing.the-variants.{Written, Refused}
 use Rattle.write.specs.Writing.{written, textLength}
-use Rattle.write.specs.Write.{WriteResult, writingOf, writeResult, Writes}
+use Rattle.write.specs.Write.{WriteResult, answered, writeResult, Writes}
 
 -- ---- no second result
 
-writing-only : (a b : Writing) (t₁ t₂ : List ℕ) → writingOf a t₁ ≡ writingOf b t₂ → a ≡ b
+writing-only : (a b : Writing) (t₁ t₂ : List ℕ) → answered a t₁ ≡ answered b t₂ → a ≡ b
 writing-only (Written n) (Written m) t₁ t₂ e = λ i. Written (e i .filled)
 writing-only (Written n) (Refused y) t₁ t₂ e = absurd (refused-number y (sym (ap (λ (r : WriteResult). r .number) e)))
 writing-only (Refused x) (Written m) t₁ t₂ e = absurd (refused-number x (ap (λ (r : WriteResult). r .number) e))
 writing-only (Refused x) (Refused y) t₁ t₂ e = ap Refused (number-only x y (ap (λ (r : WriteResult). r .number) e))
 
-writing-buffer : (a : Writing) (t : List ℕ) → writingOf a t .text ≡ t
+writing-buffer : (a : Writing) (t : List ℕ) → answered a t .text ≡ t
 writing-buffer (Written filled) t = refl
 writing-buffer (Refused refusal) t = refl
 
@@ -33,16 +33,16 @@ write-only n hard soft text a b text₁ text₂ p q =
 -- ---- wrong programs
 
 -- a Write that refuses everything
-pub write-refuses-not : ((n : ℕ) (hard soft text : List ℕ) → (refusal : Refusal) × Writes n hard soft text (Refused refusal) text) → ⊥
+pub write-not-refusing : ((n : ℕ) (hard soft text : List ℕ) → (refusal : Refusal) × Writes n hard soft text (Refused refusal) text) → ⊥
 unfolding written digitOf textLength writeResult
-write-refuses-not program =
+write-not-refusing program =
     let p = program 0 [] [] (0 ∷ 0 ∷ 0 ∷ 0 ∷ 0 ∷ 0 ∷ 0 ∷ 0 ∷ []) in
     refused-number (p .0) (ap (λ (r : WriteResult). r .number) (p .1))
 
 -- a Write that writes nothing
-pub write-idles-not : ((n : ℕ) (hard soft text : List ℕ) → (answer : Writing) × Writes n hard soft text answer text) → ⊥
+pub write-not-silent : ((n : ℕ) (hard soft text : List ℕ) → (answer : Writing) × Writes n hard soft text answer text) → ⊥
 unfolding written digitOf textLength writeResult
-write-idles-not program =
+write-not-silent program =
     let text : List ℕ = 0 ∷ 0 ∷ 0 ∷ 0 ∷ 0 ∷ 0 ∷ 0 ∷ 0 ∷ [] in
     let p = program 0 [] [] text in
     let e : _≡_ {A = ℕ} 0 49 = ap (λ (t : List ℕ). getD t 0 0) (sym (writing-buffer (p .0) text) ∙ ap (λ (r : WriteResult). r .text) (p .1)) in

@@ -17,7 +17,7 @@ use Rattle.setups.proofs.JudgeLaws.{FineClauses, fine-clauses}
 use Rattle.digits.proofs.Stores.{sets-front}
 use Rattle.write.specs.declared.Writing.the-variants.{Written, Refused}
 use Rattle.write.specs.Writing.{written, textLength}
-use Rattle.write.specs.Write.{WriteResult, writingOf, setupRefusal, writeRefusal, writeResult}
+use Rattle.write.specs.Write.{WriteResult, answered, setupRefusal, writeRefusal, writeResult}
 use Rattle.write.proofs.ClauseLines.{measured}
 
 -- ---- a setup that passes
@@ -44,11 +44,11 @@ fine n hard soft rest e =
 -- ---- from the judgement to Write's answer
 
 module _ (n : ℕ) (hard soft text : List ℕ) where
-  refused : (refusal : Refusal) → numberOf refusal ≡ writeRefusal n hard soft (length text) → writingOf (Refused refusal) text ≡ writeResult n hard soft text
+  refused : (refusal : Refusal) → numberOf refusal ≡ writeRefusal n hard soft (length text) → answered (Refused refusal) text ≡ writeResult n hard soft text
   unfolding writeResult
   refused refusal e = rw (← e, ne-eqb (numberOf refusal) 0 (refused-number refusal))
 
-  pub unfit : (refusal : Refusal) → ((rest : ℕ) → numberOf refusal ≡ setupRefusal n hard soft rest) → writingOf (Refused refusal) text ≡ writeResult n hard soft text
+  pub unfit : (refusal : Refusal) → ((rest : ℕ) → numberOf refusal ≡ setupRefusal n hard soft rest) → answered (Refused refusal) text ≡ writeResult n hard soft text
   unfit refusal h = refused refusal (h (check (ltb (length text) (textLength hard soft)) Room 0))
 
   -- Write finishes where it refuses nothing
@@ -63,10 +63,10 @@ module _ (n : ℕ) (hard soft text : List ℕ) where
   finishes e = rw e
 
   module _ (h : (rest : ℕ) → rest ≡ setupRefusal n hard soft rest) where
-    pub no-room : length text < textLength hard soft → writingOf (Refused Room) text ≡ writeResult n hard soft text
+    pub no-room : length text < textLength hard soft → answered (Refused Room) text ≡ writeResult n hard soft text
     no-room l = refused Room (rw (← h (check (ltb (length text) (textLength hard soft)) Room 0), lt-ltb (length text) (textLength hard soft) l))
 
-    pub wrote : (filled : ℕ) (after : List ℕ) → filled ≡ textLength hard soft → textLength hard soft ≤ length text → after ≡ sets text 0 (written n hard soft) → writingOf (Written filled) after ≡ writeResult n hard soft text
+    pub wrote : (filled : ℕ) (after : List ℕ) → filled ≡ textLength hard soft → textLength hard soft ≤ length text → after ≡ sets text 0 (written n hard soft) → answered (Written filled) after ≡ writeResult n hard soft text
     wrote filled after e l a =
         rw (e, a, sets-front text (written n hard soft) (rw (measured n hard soft) at l))
         (sym (finishes (rw (← h (check (ltb (length text) (textLength hard soft)) Room 0), le-ltb (length text) (textLength hard soft) l))))

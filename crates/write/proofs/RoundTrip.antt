@@ -20,7 +20,7 @@ use Rattle.setups.proofs.CheckLaws.{settings-length}
 use Rattle.digits.specs.Digits.{digitOf}
 use Rattle.digits.proofs.Hexadecimal.{digit-back, byte-back}
 use Rattle.frames.specs.Frames.{lineFeed, line, lines, lineBytes, headerKind, hardKind, softKind, endKind, frameMost, Frame, header, hard, soft, end, frame}
-use Rattle.read.specs.Texts.{Sofar, fresh, under, ending, next, good, follow, judge}
+use Rattle.read.specs.Texts.{Sofar, fresh, under, ending, following, good, follow, judge}
 use Rattle.read.specs.Read.{textMost, readResult}
 use Rattle.read.proofs.Answers.{fillsWith, accepts}
 use Rattle.write.specs.Writing.{Bytes, clauseLines, written, textLength, writtenMost}
@@ -126,7 +126,7 @@ clauses-fit (c ∷ cs) h e =
 
 module _ (kind : ℕ) (make : List ℕ → Frame) (grown : List ℕ → Sofar)
     (back : (c : List ℕ) → Clause c → frame (line (kind ∷ c)) ≡ make c)
-    (grows : (n : ℕ) (x c : List ℕ) → next n (grown x) (make c) ≡ grown (x ++ ending c)) where
+    (grows : (n : ℕ) (x c : List ℕ) → following n (grown x) (make c) ≡ grown (x ++ ending c)) where
   follow-clauses : (cs : List (List ℕ)) → Each Clause cs → (n : ℕ) (x rest : List ℕ) → follow n (grown x) (lines (clauseLines kind cs ++ rest)) ≡ follow (n + length cs) (grown (x ++ flat cs)) (lines rest)
   unfolding flat
   follow-clauses [] h n x rest = rw (add-zero n, append-nil x)
@@ -135,7 +135,7 @@ module _ (kind : ℕ) (make : List ℕ → Frame) (grown : List ℕ → Sofar)
       let more : suc n + length cs ≡ n + suc (length cs) = omega arith in
       ap (λ (t : List ℕ). follow n (grown x) (lines t)) (append-assoc (line (kind ∷ c)) (clauseLines kind cs) rest)
       ∙ ap (follow n (grown x)) (line-first (kind ∷ c) after)
-      ∙ ap (λ (f : Frame). follow (suc n) (next n (grown x) f) (lines after)) (back c (h .0))
+      ∙ ap (λ (f : Frame). follow (suc n) (following n (grown x) f) (lines after)) (back c (h .0))
       ∙ ap (λ (y : Sofar). follow (suc n) y (lines after)) (grows n x c)
       ∙ follow-clauses cs (h .1) (suc n) (x ++ ending c) rest
       ∙ rw (more, append-assoc x (ending c) (flat cs))
@@ -168,13 +168,13 @@ module _ (count : ℕ) (hards softs : List ℕ) (b : count < 256) (h : Each Clau
       let n = 2 + length (clauses hards) in
       let m = n + length (clauses softs) in
       ap (follow 1 fresh) (line-first (headerKind ∷ count ∷ []) (hardLines ++ (softLines ++ last)))
-      ∙ ap (λ (f : Frame). follow 2 (next 1 fresh f) (lines (hardLines ++ (softLines ++ last)))) header-back
+      ∙ ap (λ (f : Frame). follow 2 (following 1 fresh f) (lines (hardLines ++ (softLines ++ last)))) header-back
       ∙ follow-clauses hardKind hard (λ x. under count x []) hard-back (λ m x c. refl) (clauses hards) h 2 [] (softLines ++ last)
       ∙ ap (λ (x : List ℕ). follow n (under count x []) (lines (softLines ++ last))) (flat-clauses hards eh)
       ∙ follow-clauses softKind soft (λ x. under count hards x) soft-back (λ m x c. refl) (clauses softs) s n [] last
       ∙ ap (λ (x : List ℕ). follow m (under count hards x) (lines last)) (flat-clauses softs es)
       ∙ ap (follow m (under count hards softs)) (line-first (endKind ∷ []) [])
-      ∙ ap (λ (f : Frame). follow (suc m) (next m (under count hards softs) f) []) end-back
+      ∙ ap (λ (f : Frame). follow (suc m) (following m (under count hards softs) f) []) end-back
 
 -- ---- a setup that Write takes
 

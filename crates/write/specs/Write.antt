@@ -21,9 +21,9 @@ pub record WriteResult : Type 0 where
   pub text : List ℕ
 
 -- the paper's number and values of an answer, with what the text buffer then holds
-abbrev pub writingOf : Writing → List ℕ → WriteResult
-writingOf (Written filled) text = record { number = finished; filled = filled; text = text }
-writingOf (Refused refusal) text = record { number = numberOf refusal; filled = 0; text = text }
+abbrev pub answered : Writing → List ℕ → WriteResult
+answered (Written filled) text = record { number = finished; filled = filled; text = text }
+answered (Refused refusal) text = record { number = numberOf refusal; filled = 0; text = text }
 
 -- 1, 2, 4, 5, 6, 7, and then what comes after
 abbrev pub setupRefusal : ℕ → List ℕ → List ℕ → ℕ → ℕ
@@ -45,7 +45,7 @@ writeResult n hard soft text =
 
 -- Write's promise: the answer, and the text buffer afterwards
 abbrev pub Writes : ℕ → List ℕ → List ℕ → List ℕ → Writing → List ℕ → Type 0
-Writes n hard soft text answer text′ = writingOf answer text′ ≡ writeResult n hard soft text
+Writes n hard soft text answer text′ = answered answer text′ ≡ writeResult n hard soft text
 
 -- a setup with no variable and no clause takes eight places, 1000 and FF, and the ninth stays; with seven places it is Room
 example-write :

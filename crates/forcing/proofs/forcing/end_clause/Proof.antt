@@ -7,7 +7,7 @@ use Rattle.forcing.proofs.forcing.end_clause.Statement.{statement}
 use Rattle.forcing.proofs.forcing.end_clause.Tie as tie
 
 returns : tie.Need-returns
-returns c = answers-still _ _ (c .before .pre .0)
+returns c = answers-still (c .before .pre .0)
 
 enum-told : tie.Need-enum-told
 enum-told c = search needs
@@ -36,7 +36,7 @@ returns-3 c =
     (c .before .before .seen .given .1) (enters .before .pre .1))
 
 returns-4 : tie.Need-returns-4
-returns-4 c = answers-still _ _ (c .before .before .before .before .pre .0)
+returns-4 c = answers-still (c .before .before .before .before .pre .0)
 
 pub end-clause-spec : {M : Type 1} → statement M
 end-clause-spec =

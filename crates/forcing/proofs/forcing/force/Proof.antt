@@ -6,7 +6,7 @@ use native.Mathlib.Omega.{arith}
 use borrow.Author.Needs.{needs}
 use lib.ListN.{length}
 use Rattle.numbers.specs.declared.Selector.{Selector}
-use Rattle.forcing.proofs.ForcingLaws.{Forcing, forcing-starts, forcing-reads, forcing-fails, forcing-ends}
+use Rattle.forcing.proofs.ForcingLaws.{Forcing, forcing-starts, forcing-reads, forcing-on, forcing-ends}
 use Rattle.forcing.proofs.forcing.force.Statement.{statement}
 use Rattle.forcing.proofs.forcing.force.Tie as tie
 
@@ -31,7 +31,7 @@ end-clause-requires c κs = let at = c .before .before .before .before .loop .in
 returns : tie.Need-returns Inv-loop μ-loop
 returns c =
     let inside = c .before .before .before .before .before in
-    forcing-fails _ _ _ _ _ _ _ (inside .before .loop .inv) (inside .loop-test .taken) (c .before .before .before .if1 .taken) _
+    forcing-on _ _ _ _ _ _ _ (inside .before .loop .inv) (inside .loop-test .taken) (c .before .before .before .if1 .taken) _
     (c .before .before .owes .ensures) _ (c .before .end-clause .ensures)
 
 next-selector-requires : tie.Need-next-selector-requires Inv-loop μ-loop

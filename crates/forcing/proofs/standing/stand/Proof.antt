@@ -18,7 +18,7 @@ abbrev μ-loop : tie.MeasureT-loop
 μ-loop soft values sure₀ possible₀ chance₀ selector₀ i₀ sure possible chance selector i = length soft - i
 
 loop-holds : tie.Need-loop-holds Inv-loop μ-loop
-loop-holds c = standing-starts _ _ _ _ refl refl
+loop-holds c = standing-starts refl refl
 
 shared-slice-read-byte : tie.Need-shared-slice-read-byte Inv-loop μ-loop
 shared-slice-read-byte c = search needs
@@ -54,13 +54,12 @@ loop-again c =
     let l = inside .loop-test .taken in
     ⊎-elim
     (λ w.
-    standing-ends _ _ _ _ _ _ _ (at .inv) l (w .0 .taken) _ _ _ _ (rw (w .4) (w .1 .ensures)) (rw (w .5) (w .2 .ensures))
-    (ap (λ (x : Selector). x .0) (w .7) ∙ w .3 .ensures) (w .6))
-    (λ w. rw (w .3, w .4, w .6) (standing-reads _ _ _ _ _ _ _ (at .inv) l (w .0 .left) _ (w .1 .ensures) _ (w .5 ∙ w .2 .ensures)))
+    standing-ends (at .inv) l (w .0 .taken) (rw (w .4) (w .1 .ensures)) (rw (w .5) (w .2 .ensures)) (ap (λ (x : Selector). x .0) (w .7) ∙ w .3 .ensures) (w .6))
+    (λ w. rw (w .3, w .4, w .6) (standing-reads (at .inv) l (w .0 .left) (w .1 .ensures) (w .5 ∙ w .2 .ensures)))
     (c .if1 .came)
 
 returns : tie.Need-returns Inv-loop μ-loop
-returns c = standing-done _ _ _ _ _ _ _ (c .before .loop .inv) (c .loop-test .left)
+returns c = standing-done (c .before .loop .inv) (c .loop-test .left)
 
 pub stand-spec : {M : Type 1} → statement M
 stand-spec =

@@ -1,4 +1,4 @@
--- `values::with_false` meets its contract, by those of `place` and `wish`; the value that a literal wishes for is 0 or 1.
+-- `values::with_false` meets its contract, by those of `slot` and `wish`; the value that a literal wishes for is 0 or 1.
 use borrow.Author.Needs.{needs}
 use native.Mathlib.Omega.{arith}
 use Rattle.setups.proofs.Settling.{wish-small}

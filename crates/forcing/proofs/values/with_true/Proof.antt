@@ -1,4 +1,4 @@
--- `values::with_true` meets its contract, by those of `place` and `wish`.
+-- `values::with_true` meets its contract, by those of `slot` and `wish`.
 use borrow.Author.Needs.{needs}
 use Rattle.forcing.proofs.values.with_true.Statement.{statement}
 use Rattle.forcing.proofs.values.with_true.Tie as tie

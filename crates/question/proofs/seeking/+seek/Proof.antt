@@ -55,7 +55,7 @@ seek-all-rounds-requires t c κs = search needs
 seek-returns : (t : ℕ) → seek-lts.Need-returns (claims t) (seek-at t) seek.Post
 seek-returns t c =
     let rounds = c .before .before in
-    seeks-stuck _ _ _ _ _ _ (rounds .all-rounds .ensures) (c .if1 .taken) _
+    seeks-stuck (rounds .all-rounds .ensures) (c .if1 .taken) _
 
 seek-done-requires : (t : ℕ) → seek-lts.Need-done-requires (claims t) (seek-at t) seek.Post
 seek-done-requires t c κs = search needs
@@ -63,7 +63,7 @@ seek-done-requires t c κs = search needs
 seek-returns-2 : (t : ℕ) → seek-lts.Need-returns-2 (claims t) (seek-at t) seek.Post
 seek-returns-2 t c =
     let rounds = c .before .before .before .before in
-    seeks-done _ _ _ _ _ _ (rounds .all-rounds .ensures) (c .before .before .if1 .left) (c .before .done .ensures .0 (c .if2 .taken))
+    seeks-done (rounds .all-rounds .ensures) (c .before .before .if1 .left) (c .before .done .ensures .0 (c .if2 .taken))
 
 seek-choose-requires : (t : ℕ) → seek-lts.Need-choose-requires (claims t) (seek-at t) seek.Post
 seek-choose-requires t c κs = search needs
@@ -83,7 +83,7 @@ seek-seek-requires t c κs =
     let rounds = choose .before .before .before .before .before in
     let b = c .before .before .literal .given .0 .0 in
     let free = subst (Chosen (rounds .all-rounds .result .values)) (c .before .before .literal .given .1) (choose .choose .ensures) in
-    let less = split-less _ _ _ _ _ _ (rounds .all-rounds .ensures) b free (wish b) (le-of-suc-le-suc (wish-small b)) in
+    let less = split-less (rounds .all-rounds .ensures) b free (wish b) (le-of-suc-le-suc (wish-small b)) in
     (omega (arith, less, ap freeCount (c .with-true .ensures), rounds .before .before .before .before .pre .0), tt)
 
 seek-with-false-requires : (t : ℕ) → seek-lts.Need-with-false-requires (claims t) (seek-at t) seek.Post
@@ -96,14 +96,14 @@ seek-seek-requires-2 t c κs =
     let rounds = choose .before .before .before .before .before in
     let b = first .before .before .literal .given .0 .0 in
     let free = subst (Chosen (rounds .all-rounds .result .values)) (first .before .before .literal .given .1) (choose .choose .ensures) in
-    let less = split-less _ _ _ _ _ _ (rounds .all-rounds .ensures) b free (1 - wish b) (omega arith) in
+    let less = split-less (rounds .all-rounds .ensures) b free (1 - wish b) (omega arith) in
     (omega (arith, less, ap freeCount (c .with-false .ensures), rounds .before .before .before .before .pre .0), tt)
 
 seek-returns-3 : (t : ℕ) → seek-lts.Need-returns-3 (claims t) (seek-at t) seek.Post
 seek-returns-3 t c =
     let split = c .before .before .before in
     let rounds = split .before .before .before .before .before .before .before .before .before .before in
-    seeks-second _ _ _ _ _ _ (rounds .all-rounds .ensures) _ _ _ (rw (split .before .with-true .ensures) at (split .seek .ensures))
+    seeks-second (rounds .all-rounds .ensures) _ (rw (split .before .with-true .ensures) at (split .seek .ensures))
     (c .before .before .if3 .taken)
     (rw (c .before .with-false .ensures) at (c .seek2 .ensures))
 
@@ -111,7 +111,7 @@ seek-returns-4 : (t : ℕ) → seek-lts.Need-returns-4 (claims t) (seek-at t) se
 seek-returns-4 t c =
     let choose = c .before .before in
     let rounds = choose .before .before .before .before .before in
-    seeks-full _ _ _ _ _ _ (rounds .all-rounds .ensures) (choose .before .before .before .if1 .left)
+    seeks-full (rounds .all-rounds .ensures) (choose .before .before .before .if1 .left)
     (subst (Chosen (rounds .all-rounds .result .values)) (c .enum-told .given .1) (choose .choose .ensures))
     (λ met. true≢false (sym (choose .before .before .done .ensures .1 met) ∙ choose .before .if2 .left)) _
 
@@ -119,7 +119,7 @@ seek-returns-5 : (t : ℕ) → seek-lts.Need-returns-5 (claims t) (seek-at t) se
 seek-returns-5 t c =
     let split = c .before in
     let rounds = split .before .before .before .before .before .before .before .before .before .before in
-    seeks-first _ _ _ _ _ _ (rounds .all-rounds .ensures) _ _ (rw (split .before .with-true .ensures) at (split .seek .ensures)) (c .if3 .left)
+    seeks-first (rounds .all-rounds .ensures) _ (rw (split .before .with-true .ensures) at (split .seek .ensures)) (c .if3 .left)
 
 pub +seek-spec : {M : Type 1} → statement M
 +seek-spec = close μ-seek λ t. seek-lts.spec (claims t) (seek-at t) seek.Post

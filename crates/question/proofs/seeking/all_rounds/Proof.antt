@@ -30,7 +30,7 @@ loop-less c =
     (c .one-round2 .ensures)
 
 loop-again : tie.Need-loop-again Inv-loop μ-loop
-loop-again c = λ values s. advances-on _ _ _ _ values _ _ (c .before .before .before .loop .inv values s) (c .one-round2 .ensures)
+loop-again c = λ values s. advances-on (c .before .before .before .loop .inv values s) (c .one-round2 .ensures)
 
 returns : tie.Need-returns Inv-loop μ-loop
 returns c = c .before .loop .inv _ (c .before .before .one-round .ensures)

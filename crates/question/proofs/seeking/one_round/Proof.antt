@@ -5,8 +5,9 @@ use borrow.Author.Needs.{needs}
 use Rattle.setups.specs.Limits.{settingsMost}
 use Rattle.forcing.specs.Holding.{isTrue}
 use Rattle.forcing.specs.Rules.{KeepsAnswers, unmoved}
+use Rattle.forcing.proofs.RuleLaws.{answers-fewer}
 use Rattle.question.specs.Seeking.{Fulfils}
-use Rattle.question.proofs.Rounds.{fulfils-step, advances-stuck, advances-dead, advances-same, advances-wider}
+use Rattle.question.proofs.Rounds.{fulfils-both, advances-stuck, advances-dead, advances-same, advances-wider}
 use Rattle.question.proofs.seeking.one_round.Statement.{statement}
 use Rattle.question.proofs.seeking.one_round.Tie as tie
 
@@ -17,7 +18,7 @@ by-force : (c : tie.After-force-both) →
 by-force c =
     let enters = c .before .before .before .before in
     let small : enters .args .kept < 2 ^ settingsMost = omega (arith, enters .fits .kept) in
-    fulfils-step _ _ _ _ _ _ small (c .force-both .ensures)
+    answers-fewer (c .force-both .ensures) (λ m asked. fulfils-both small asked)
 
 force-both-requires : tie.Need-force-both-requires
 force-both-requires c κs = search needs
@@ -26,7 +27,7 @@ failed-requires : tie.Need-failed-requires
 failed-requires c κs = search needs
 
 returns : tie.Need-returns
-returns c = rw (c .failed .ensures) (advances-stuck _ _ _ _ _ _ (by-force (c .before .before .before)) (c .before .if1 .taken))
+returns c = rw (c .failed .ensures) (advances-stuck (by-force (c .before .before .before)) (c .before .if1 .taken))
 
 stand-requires : tie.Need-stand-requires
 stand-requires c κs = search needs
@@ -41,21 +42,21 @@ returns-2 : tie.Need-returns-2
 returns-2 c =
     let stand = c .before .before .before in
     rw (c .failed2 .ensures)
-    (advances-dead _ _ _ _ _ _ (by-force (stand .before .before .before)) _ (stand .stand .ensures) _ (c .before .before .narrow .ensures)
+    (advances-dead (by-force (stand .before .before .before)) (stand .stand .ensures) (c .before .before .narrow .ensures)
     (c .before .if2 .taken))
 
 returns-3 : tie.Need-returns-3
 returns-3 c =
     let narrow = c .before .before .before in
     let stand = narrow .before in
-    advances-same _ _ _ _ _ _ (by-force (stand .before .before .before)) _ (stand .stand .ensures) _ (narrow .narrow .ensures)
+    advances-same (by-force (stand .before .before .before)) (stand .stand .ensures) (narrow .narrow .ensures)
     (c .if3 .taken)
 
 returns-4 : tie.Need-returns-4
 returns-4 c =
     let narrow = c .before .before .before in
     let stand = narrow .before in
-    advances-wider _ _ _ _ _ _ (by-force (stand .before .before .before)) _ (stand .stand .ensures) _ (narrow .narrow .ensures)
+    advances-wider (by-force (stand .before .before .before)) (stand .stand .ensures) (narrow .narrow .ensures)
     (c .if3 .left)
 
 pub one-round-spec : {M : Type 1} → statement M
