@@ -14,7 +14,7 @@ use Rattle.setups.specs.declared.Refusal.the-variants.{Spent}
 use Rattle.setups.specs.Limits.{variablesMost}
 use Rattle.setups.specs.Clauses.{LiteralOf}
 use Rattle.literals.specs.Slots.{opening}
-use Rattle.setups.specs.Search.{Found, Model, None}
+use Rattle.setups.specs.Search.{SearchResult, Model, None}
 use Rattle.setups.specs.Searching.{visit, search}
 use Rattle.setups.specs.Meaning.{Means}
 use Rattle.setups.specs.Refusals.{numberOf}
@@ -58,7 +58,7 @@ made n places outcome.Spent used values = answered (asked.Refused Spent) places
 abbrev madeOf : ℕ → List ℕ → Visited → AskResult
 madeOf n places a = made n places (a .outcome) (a .used) (a .values)
 
-told-made : (n budget k : ℕ) (cs : List (List ℕ)) (places : List ℕ) (r : Found) → Means n cs r
+told-made : (n budget k : ℕ) (cs : List (List ℕ)) (places : List ℕ) (r : SearchResult) → Means n cs r
     → madeOf n places (told budget 0 (padded k r)) ≡ searchedResult budget places r
 unfolding told
 told-made n budget k cs places (Model m visits) means =

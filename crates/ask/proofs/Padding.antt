@@ -13,8 +13,8 @@ use Rattle.setups.specs.declared.Seen.{Seen}
 use Rattle.setups.specs.declared.Seen.the-variants.{AllFalse, OneFree, Enough}
 use Rattle.setups.specs.Clauses.{place, wish}
 use Rattle.setups.specs.Settling.{put}
-use Rattle.setups.specs.Search.{Found, Model, None, Lowest}
-use Rattle.setups.specs.Searching.{seeValue, see, judge, orElse, scan, freeCount, lowestFree, Settled, settle, split, visit}
+use Rattle.setups.specs.Search.{SearchResult, Model, None, Lowest}
+use Rattle.setups.specs.Searching.{seeValue, see, seeClause, orElse, scan, freeCount, lowestFree, Settled, settle, split, visit}
 use Rattle.setups.proofs.Settling.{free-inside, free-value}
 use Rattle.setups.proofs.Scanning.{scan-right, free-set, Full, lowest-cases, lowest-only, lowest-none}
 use Rattle.setups.proofs.Visits.{scan-fewer, settle-fails, settle-on, settle-stops, settle-fewer, visit-none, visit-model, visit-split}
@@ -24,7 +24,7 @@ abbrev pub pad : ℕ → List ℕ → List ℕ
 pad k values = values ++ replicate k 0
 
 -- what a search over such values finds
-abbrev pub padded : ℕ → Found → Found
+abbrev pub padded : ℕ → SearchResult → SearchResult
 padded k (Model m visits) = Model (pad k m) visits
 padded k (None visits) = None visits
 
@@ -36,12 +36,12 @@ module _ (k : ℕ) where
   getD-pad (x ∷ values) zero = refl
   getD-pad (x ∷ values) (suc i) = getD-pad values i
 
-  judge-pad : (values : List ℕ) (seen : Seen) (clause : List ℕ) → judge (pad k values) seen clause ≡ judge values seen clause
-  unfolding judge
+  judge-pad : (values : List ℕ) (seen : Seen) (clause : List ℕ) → seeClause (pad k values) seen clause ≡ seeClause values seen clause
+  unfolding seeClause
   judge-pad values seen [] = refl
   judge-pad values seen (b ∷ clause) =
       judge-pad values (see (pad k values) seen b) clause
-      ∙ ap (λ (x : ℕ). judge values (seeValue seen b x) clause) (getD-pad values (place b))
+      ∙ ap (λ (x : ℕ). seeClause values (seeValue seen b x) clause) (getD-pad values (place b))
 
   scan-pad : (values : List ℕ) (cs : List (List ℕ)) → scan (pad k values) cs ≡ scan values cs
   unfolding scan
@@ -91,7 +91,7 @@ module _ (k : ℕ) where
 
   -- ---- visits
 
-  split-pad : (low high : Found) → split (padded k low) (padded k high) ≡ padded k (split low high)
+  split-pad : (low high : SearchResult) → split (padded k low) (padded k high) ≡ padded k (split low high)
   split-pad (Model m visits) high = refl
   split-pad (None visits) (Model m more) = refl
   split-pad (None visits) (None more) = refl

@@ -18,7 +18,8 @@ use Rattle.setups.specs.Written.{written}
 use Rattle.setups.specs.Ask.{AskResult, askClauses, askRefusal, searchedResult, askResult}
 use Rattle.setups.proofs.Models.{search-means}
 use Rattle.setups.proofs.Refusals.{number-only, refused-number, refused-not-none}
-use Rattle.setups.proofs.Visits.{visits-exist, visits-only, visitsOf}
+use Rattle.setups.specs.Search.{visitsOf}
+use Rattle.setups.proofs.Visits.{visits-exist, visits-only}
 use Rattle.ask.specs.declared.Asked.{Asked}
 use Rattle.ask.specs.declared.Asked.the-variants.{Model, None, Refused}
 use Rattle.ask.specs.Asking.{answered, Asks}
@@ -57,7 +58,7 @@ ask-only n bytes assumed budget places answer other after later p q = answered-o
 -- ---- where a result comes from
 
 -- what the search of document 01 gives, and what it means
-record Ends (n : ℕ) (bytes assumed : List ℕ) (r : search.Found) : Type 0 where
+record Ends (n : ℕ) (bytes assumed : List ℕ) (r : search.SearchResult) : Type 0 where
   searched : Searched n bytes assumed r
   means : Means n (askClauses bytes assumed) r
 
@@ -65,7 +66,7 @@ record Ends (n : ℕ) (bytes assumed : List ℕ) (r : search.Found) : Type 0 whe
 data Comes (n : ℕ) (bytes assumed : List ℕ) (budget : ℕ) (places : List ℕ) (x : AskResult) : Type 0 where
   refuses : askRefusal n bytes assumed (length places) ≢ 0 → x ≡ record { number = askRefusal n bytes assumed (length places); visits = 0; model = places }
       → Comes n bytes assumed budget places x
-  spends : (r : search.Found) → Ends n bytes assumed r → budget < visitsOf r → x ≡ answered (Refused Spent) places → Comes n bytes assumed budget places x
+  spends : (r : search.SearchResult) → Ends n bytes assumed r → budget < visitsOf r → x ≡ answered (Refused Spent) places → Comes n bytes assumed budget places x
   models : (m : List ℕ) (visits : ℕ) → Ends n bytes assumed (search.Model m visits) → visits ≤ budget → x ≡ answered (Model visits) (written m places)
       → Comes n bytes assumed budget places x
   fails : (visits : ℕ) → Ends n bytes assumed (search.None visits) → visits ≤ budget → x ≡ answered (None visits) places → Comes n bytes assumed budget places x
@@ -84,7 +85,7 @@ module _ (n : ℕ) (bytes assumed : List ℕ) (budget : ℕ) (places : List ℕ)
       ends : Ends n bytes assumed (searching.search n cs)
       ends = record { searched = visits-exist cs (replicate n 2); means = search-means n cs }
 
-      searched : (r : search.Found) → Ends n bytes assumed r → x ≡ searchedResult budget places r → Comes n bytes assumed budget places x
+      searched : (r : search.SearchResult) → Ends n bytes assumed r → x ≡ searchedResult budget places r → Comes n bytes assumed budget places x
       searched (search.Model m visits) end =
           cond-case (λ (y : AskResult). x ≡ y → Comes n bytes assumed budget places x) (ltb budget visits)
           (λ t. spends (search.Model m visits) end (ltb-true budget visits t)) (λ t. models m visits end (ltb-false budget visits t))
@@ -134,11 +135,11 @@ module _ (n : ℕ) (bytes assumed : List ℕ) (budget : ℕ) (places : List ℕ)
       go (fails v end l q) = model-so q
 
   -- where no other refusal is given, Spent is given exactly when the visits of the whole search are above the budget
-  pub ask-spent : askRefusal n bytes assumed (length places) ≡ 0 → (r : search.Found) → Searched n bytes assumed r
+  pub ask-spent : askRefusal n bytes assumed (length places) ≡ 0 → (r : search.SearchResult) → Searched n bytes assumed r
       → Asks n bytes assumed budget places (Refused Spent) places ↔ (budget < visitsOf r)
   ask-spent none r s = ((λ p. to (comes (answered (Refused Spent) places) p)), λ l. from l (comes (askResult n bytes assumed budget places) refl))
     where
-      same : (other : search.Found) → Ends n bytes assumed other → visitsOf other ≡ visitsOf r
+      same : (other : search.SearchResult) → Ends n bytes assumed other → visitsOf other ≡ visitsOf r
       same other end = ap visitsOf (visits-only (end .searched) s)
 
       to : Comes n bytes assumed budget places (answered (Refused Spent) places) → budget < visitsOf r

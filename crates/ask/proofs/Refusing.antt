@@ -12,7 +12,7 @@ use Rattle.numbers.proofs.Deciding.{neither}
 use Rattle.setups.specs.declared.Refusal.the-variants.{Vars, Size, Literal, Tail, Long, Room}
 use Rattle.setups.specs.Limits.{variablesMost, hardBytesMost, assumedMost}
 use Rattle.setups.specs.Refusals.{numberOf, noModel, check, noLiteral, noClauseByte, firstPlace, offends, ended, long}
-use Rattle.setups.specs.Checks.{tailPlace, longPlace}
+use Rattle.setups.specs.Code.Checks.{tailPlace, longPlace}
 use Rattle.setups.specs.Ask.{askRefusal}
 use Rattle.setups.proofs.CheckLaws.{tail-test, long-test}
 use Rattle.setups.proofs.Refusals.{check-none, check-most}

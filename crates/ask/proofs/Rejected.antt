@@ -9,7 +9,8 @@ use Rattle.setups.specs.declared.Refusal.{Refusal}
 use Rattle.setups.specs.Search as search
 use Rattle.setups.specs.Ask.{AskResult, askResult}
 use Rattle.setups.proofs.Refusals.{refused-number}
-use Rattle.setups.proofs.Visits.{visitsOf, visits-only}
+use Rattle.setups.specs.Search.{visitsOf}
+use Rattle.setups.proofs.Visits.{visits-only}
 use Rattle.ask.specs.declared.Asked.{Asked}
 use Rattle.ask.specs.declared.Asked.the-variants.{Model, None, Refused}
 use Rattle.ask.specs.Asking.{Asks}
@@ -39,7 +40,7 @@ ask-not-silent answer p =
     omega (arith, ap (λ (after : List ℕ). getD after 0 0) same)
 
 -- one that makes up a visit count: whatever the arguments, it is that of the search of document 01
-pub ask-not-made-up : (n : ℕ) (bytes assumed : List ℕ) (budget : ℕ) (places : List ℕ) (r : search.Found) (visits : ℕ) (after : List ℕ)
+pub ask-not-made-up : (n : ℕ) (bytes assumed : List ℕ) (budget : ℕ) (places : List ℕ) (r : search.SearchResult) (visits : ℕ) (after : List ℕ)
     → Searched n bytes assumed r → visitsOf r ≢ visits
     → (¬ Asks n bytes assumed budget places (Model visits) after) × (¬ Asks n bytes assumed budget places (None visits) after)
 ask-not-made-up n bytes assumed budget places r visits after s d = (

@@ -2,4 +2,4 @@
 pub mod Asking
 pub mod Meaning
 -- what its checks answer
-pub mod Checking
+pub mod Code

@@ -10,7 +10,7 @@ use Rattle.setups.specs.Meaning.{First}
 use Rattle.setups.specs.Ask.{askClauses}
 
 -- the search of document 01 over n variables, all free at first, gives r
-abbrev pub Searched : ℕ → List ℕ → List ℕ → search.Found → Type 0
+abbrev pub Searched : ℕ → List ℕ → List ℕ → search.SearchResult → Type 0
 Searched n bytes assumed r = search.Visit (askClauses bytes assumed) (replicate n 2) r
 
 -- What Model says: the first model in order is written, the places beyond stay as they were, and the visits are those of the search.

@@ -2,7 +2,7 @@
 // the visit count of the whole search; or that there is none; or a refusal, which writes nothing.
 mod checks;
 
-use checks::Checked;
+use checks::Admission;
 use checks::first_refusal;
 use literals::Values;
 use literals::opening;
@@ -61,7 +61,7 @@ pub fn ask(count: u32, clauses: &[u8], assumed: &[u8], budget: u32, model: &mut 
     ensures { λ r. ⌜ Asks count (now (clauses .entry)) (now (assumed .entry)) budget (now (model .entry)) r (now (model .exit)) ⌝ }
 {
     match first_refusal(count, clauses, assumed, model.len()) {
-        Checked::Refused(refusal) => Asked::Refused(refusal),
-        Checked::Passed => answer(count, clauses, assumed, budget, model),
+        Admission::Refused(refusal) => Asked::Refused(refusal),
+        Admission::Passed => answer(count, clauses, assumed, budget, model),
     }
 }

@@ -13,6 +13,7 @@ use Rattle.numbers.proofs.Deciding.{and-left, and-right, and-both}
 use Rattle.setups.specs.Limits.{settingsMost}
 use Rattle.setups.specs.Clauses.{push, clauses, passes, allPass}
 use Rattle.setups.specs.Setups.{apiece, settings}
+use Rattle.setups.proofs.Truth.{clauses-push}
 use Rattle.forcing.specs.Holding.{holds}
 
 -- whether each clause passes, where `sofar` tells whether a literal of the first that is read already does
@@ -70,11 +71,6 @@ verdict-all test [] = refl
 verdict-all test (c ∷ cs) = ap (λ (q : Bool). passes test c && q) (verdict-all test cs)
 
 -- ---- a byte at a time
-
--- a byte that ends no clause stands in front of the first
-clauses-push : (b : ℕ) (bytes : List ℕ) → b ≢ 0 → clauses (b ∷ bytes) ≡ push b (clauses bytes)
-clauses-push zero bytes n = absurd (n refl)
-clauses-push (suc b) bytes n = refl
 
 pub verdicts-push : (test : ℕ → Bool) (sofar : Bool) (b : ℕ) (cs : List (List ℕ))
     → verdicts test sofar (push b cs) ≡ verdicts test (sofar || test b) cs

@@ -34,7 +34,7 @@ use denote.Struct.Steps.{spelt}
 use denote.Triple.Statement.{Contract}
 use denote.Triple.Spec.{tripleOf}
 use denote.Triple.Clauses.{ensured, lasts}
-use Rattle.frames.specs.Found.{foundAt, nextPlace}
+use Rattle.frames.specs.Code.Found.{foundAt, nextPlace}
 use Rattle.frames.specs.declared.reader.FrameReader.{FrameReader}
 use Rattle.frames.specs.declared.frames.Found.{Found}
 use Rattle.frames.proofs.reader.FrameReader as T

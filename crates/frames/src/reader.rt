@@ -3,7 +3,7 @@
 use crate::frames::Found;
 use crate::frames::frame_from;
 ghost use mathlib.Core.Path.{_≡_};
-ghost use Rattle.frames.specs.Found.{foundAt, nextPlace};
+ghost use Rattle.frames.specs.Code.Found.{foundAt, nextPlace};
 
 pub struct FrameReader<'a> {
     pub text: &'a [u8],

@@ -9,11 +9,12 @@ use lib.Seq.{take-all}
 use Rattle.setups.specs.declared.Refusal.{Refusal}
 use Rattle.setups.specs.Refusals.{numberOf}
 use Rattle.setups.specs.Setups.{setup}
-use Rattle.setups.specs.List.{without-list, zeroed, listRefusal, ListGives}
+use Rattle.setups.specs.List.{listRefusal, ListGives}
+use Rattle.setups.specs.GivenOut.{without-list, zeroed}
 use Rattle.setups.proofs.Refusals.{refused-number}
 use Rattle.list.specs.declared.Listing.{Listing}
 use Rattle.list.specs.Listing.{answered}
-use Rattle.list.specs.Giving.{GivesWays}
+use Rattle.list.specs.Code.Giving.{GivesWays}
 use Rattle.list.proofs.Promise.{lists-exist}
 
 -- the scratch is cleared up to its whole length, after what `held` it

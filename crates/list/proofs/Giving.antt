@@ -8,14 +8,14 @@ use lib.ListN.{length, take, drop}
 use borrow.Author.Tests.{lt-ltb, le-ltb}
 use Rattle.setups.specs.declared.Refusal.the-variants.{TooMany}
 use Rattle.setups.specs.Setups.{Setup, count, Together}
-use Rattle.setups.specs.List.{zeroed, givenOut}
+use Rattle.setups.specs.GivenOut.{zeroed, givenOut}
 use Rattle.setups.proofs.Duality.{unmet-ways-out}
 use Rattle.walk.specs.Walking.{WayOutBetween, over, Walked}
 use Rattle.walk.proofs.Overwriting.{over-take}
 use Rattle.walk.proofs.Root.{below-all, root-unmet}
 use Rattle.list.specs.declared.Listing.the-variants.{Listed, Unmet, Refused}
 use Rattle.list.specs.Listing.{answered}
-use Rattle.list.specs.Giving.{GivesWays}
+use Rattle.list.specs.Code.Giving.{GivesWays}
 
 -- an empty branch at the root: Unmet, and no place is written
 pub root-dead : (g : Setup) (settings : ℕ) (e : settings ≡ count g) (list found : List ℕ) → ¬ WayOutBetween g 0 (0 + 2 ^ settings) → GivesWays g list found Unmet list found

@@ -13,7 +13,8 @@ use Rattle.sets.proofs.Lists.{exactly-unique}
 use Rattle.setups.specs.Refusals.{unmet}
 use Rattle.setups.specs.Setups.{Setup, setup, Together, WayOut}
 use Rattle.setups.specs.Tests.{together}
-use Rattle.setups.specs.List.{ListResult, without-list, zeroed, givenOut, GivesExactly, listRefusal, listed, ListGives}
+use Rattle.setups.specs.List.{listRefusal, listedResult, ListGives}
+use Rattle.setups.specs.GivenOut.{ListResult, without-list, zeroed, givenOut, GivesExactly}
 use Rattle.setups.proofs.Duality.{ways-out-exist}
 use Rattle.setups.proofs.GivenOut.{number-so, filled-so, list-so, scratch-so, gives-nothing, gives-exactly}
 use Rattle.setups.proofs.JudgeLaws.{list-most}
@@ -30,7 +31,7 @@ pub lists-exist : (n : ℕ) (hard soft list scratch : List ℕ) → (r : ListRes
 lists-exist n hard soft list scratch =
     let g = setup n hard soft in
     let ways = ways-out-exist g in (
-      listed (listRefusal n hard soft (length list) (length scratch)) (together g 0) (ways .0) list scratch,
+      listedResult (listRefusal n hard soft (length list) (length scratch)) (together g 0) (ways .0) list scratch,
       record { ways = ways .0; exact = ways .1; met = together g 0; meets = together-iff g 0; says = refl },
     )
 

@@ -7,9 +7,9 @@ use Rattle.setups.specs.declared.judging.Judged.the-variants.{Taken, Unfit}
 use Rattle.setups.specs.Limits.{variablesMost}
 use Rattle.setups.specs.Setups.{setup}
 use Rattle.setups.specs.Refusals.{clausesRefusal}
-use Rattle.setups.specs.Checks.{Judges}
+use Rattle.setups.specs.Code.Checks.{Judges}
 use Rattle.setups.proofs.JudgeLaws.{fine-clauses}
-use Rattle.list.specs.Giving.{Checks}
+use Rattle.list.specs.Code.Giving.{Checks}
 
 -- where none before them is given, what is judged of the clauses is the answer
 pub judged : (n : ℕ) (hard soft : List ℕ) (refusal : ℕ) (answer : Judged) → n ≤ variablesMost → refusal ≡ clausesRefusal n hard soft 0 → Judges n hard soft answer

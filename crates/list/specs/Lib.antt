@@ -2,4 +2,4 @@
 pub mod Listing
 pub mod Meaning
 -- what its parts promise each other
-pub mod Giving
+pub mod Code

@@ -3,7 +3,8 @@ use mathlib.Core.Path.{_≡_, refl}
 use mathlib.Core.List.{List, []}
 use Prim.Native.Nat.{ℕ}
 use Rattle.setups.specs.Refusals.{numberOf, finished, unmet}
-use Rattle.setups.specs.List.{ListResult, without-list, ListGives}
+use Rattle.setups.specs.List.{ListGives}
+use Rattle.setups.specs.GivenOut.{ListResult, without-list}
 use Rattle.setups.specs.declared.Refusal.the-variants.{TooMany}
 use Rattle.list.specs.declared.Listing.{Listing}
 use Rattle.list.specs.declared.Listing.the-variants.{Listed, Unmet, Refused}

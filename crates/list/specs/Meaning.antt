@@ -5,7 +5,7 @@ use mathlib.Core.List.{List}
 use Prim.Native.Nat.{ℕ}
 use Rattle.setups.specs.Refusals.{unmet}
 use Rattle.setups.specs.Setups.{Setup, Together, WayOut}
-use Rattle.setups.specs.List.{ListResult, without-list, zeroed, GivesExactly}
+use Rattle.setups.specs.GivenOut.{ListResult, without-list, zeroed, GivesExactly}
 
 -- of the result r, where `refusal` is the first of 1 to 7, or 0
 pub record ListMeans (g : Setup) (refusal : ℕ) (list scratch : List ℕ) (r : ListResult) : Type 0 where

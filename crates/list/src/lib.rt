@@ -16,8 +16,8 @@ ghost use mathlib.Core.Path.{_≡_};
 ghost use Prim.Native.Nat.{_+_};
 ghost use lib.ListN.{length};
 ghost use Rattle.setups.specs.Setups.{setup, count as settingsCount};
-ghost use Rattle.setups.specs.Taken.{Taken};
-ghost use Rattle.list.specs.Giving.{GivesWays};
+ghost use Rattle.setups.specs.Code.Taken.{Taken};
+ghost use Rattle.list.specs.Code.Giving.{GivesWays};
 ghost use Rattle.list.specs.Listing.{Lists};
 
 // What List answers: how many ways out it has listed, that the hard clauses have no model, or why it can't.

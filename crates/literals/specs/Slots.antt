@@ -5,7 +5,8 @@ use Prim.Native.Nat.{ℕ, suc, _-_, _%_, _<_}
 use native.Mathlib.Omega.{arith}
 use lib.Dec.{lit<}
 use lib.ListN.{getD, replicate}
-use Rattle.numbers.specs.Numbers.{negated, valuePlace}
+use Rattle.numbers.specs.Numbers.{negated}
+use Rattle.numbers.specs.Code.Places.{valuePlace}
 use Rattle.setups.specs.Limits.{variablesMost}
 use Rattle.setups.specs.Search.{Lowest}
 use Rattle.literals.specs.declared.FirstFree.{FirstFree}

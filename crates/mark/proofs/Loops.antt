@@ -12,7 +12,7 @@ use Rattle.numbers.proofs.Deciding.{T-true, T-equal}
 use Rattle.sets.proofs.Digits.{share-only}
 use Rattle.sets.proofs.Tests.{has-in, in-has}
 use Rattle.numbers.proofs.Places.{front}
-use Rattle.mark.specs.Agreeing.{agrees}
+use Rattle.mark.specs.Code.Agreeing.{agrees}
 
 -- the code's `has` answers as the test does
 pub has-answer : (width number S : ℕ) (answer : Bool) → 0 < number → number ≤ width

@@ -2,4 +2,4 @@
 pub mod Marking
 pub mod Meaning
 -- what the marks ask of a list
-pub mod Agreeing
+pub mod Code

@@ -13,7 +13,7 @@ ghost use Rattle.sets.specs.Tests.{all};
 ghost use Rattle.sets.specs.Marks.{mark as markAt, marks as marksOf};
 ghost use Rattle.setups.specs.Limits.{settingsMost};
 ghost use Rattle.setups.specs.Written.{written};
-ghost use Rattle.mark.specs.Agreeing.{agrees};
+ghost use Rattle.mark.specs.Code.Agreeing.{agrees};
 ghost use Rattle.mark.specs.Marking.{Marks};
 
 // What Mark answers: it has marked so many settings, or refuses.

@@ -6,7 +6,7 @@ use Prim.Native.Nat.{ℕ}
 use Rattle.sets.specs.Sets.{In, Share}
 use Rattle.sets.specs.Lists.{Among}
 use Rattle.members.specs.declared.Unhit.{Unhit}
-use Rattle.members.specs.declared.Unhit.the-variants.{Nothing, Lost, Wants}
+use Rattle.members.specs.declared.Unhit.the-variants.{Nothing, Hopeless, Wants}
 
 -- S hits every member: it shares a setting with each
 abbrev pub Hits : List ℕ → ℕ → Type 0
@@ -41,5 +41,5 @@ pub record Waits (members : List ℕ) (taken left M wanted : ℕ) : Type 0 where
 -- what is left unhit: nothing; a member that no setting left hits either; or a member that wants one of these settings left
 abbrev pub Finds : List ℕ → ℕ → ℕ → Unhit → Type 0
 Finds members taken left Nothing = Hits members taken
-Finds members taken left Lost = (M : ℕ) × Waits members taken left M 0
+Finds members taken left Hopeless = (M : ℕ) × Waits members taken left M 0
 Finds members taken left (Wants wanted) = (wanted ≢ 0) × ((M : ℕ) × Waits members taken left M wanted)

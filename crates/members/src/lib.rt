@@ -18,7 +18,7 @@ ghost use Rattle.members.specs.Members.{Alone, Own, Finds};
 // settings left.
 pub enum Unhit {
     Nothing,
-    Lost,
+    Hopeless,
     Wants(Set),
 }
 
@@ -70,7 +70,7 @@ pub fn find_unhit(members: &[Set], taken: Set, left: Set) -> Unhit
         if !meets(taken, member) {
             let wanted = member & left;
             if wanted == EMPTY {
-                return Unhit::Lost;
+                return Unhit::Hopeless;
             }
             fewest = fewer(wanted, fewest);
         }

@@ -1,2 +1,3 @@
--- What the contracts of numbers and of values by place cite.
+-- The most variables, and the places for their values.
 pub mod Numbers
+pub mod Code

@@ -2,7 +2,8 @@
 // Document 01, "Setups": "Setting numbers and variable numbers are counted separately; a selector's number is neither."
 ghost use mathlib.Core.Path.{_≡_};
 ghost use Prim.Native.Nat.{_+_, _-_, _%_, _<_};
-ghost use Rattle.numbers.specs.Numbers.{negated, valuePlace};
+ghost use Rattle.numbers.specs.Numbers.{negated};
+ghost use Rattle.numbers.specs.Code.Places.{valuePlace};
 
 // A variable, counted from 1.
 pub struct Variable(pub u8);

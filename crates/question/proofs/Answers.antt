@@ -16,7 +16,7 @@ use Rattle.sets.proofs.Tests.{has-in, in-has}
 use Rattle.setups.specs.Limits.{variablesMost, settingsMost}
 use Rattle.setups.specs.Clauses.{Assigns}
 use Rattle.setups.specs.Setups.{Setup, count, SettingTrue}
-use Rattle.setups.specs.Taken.{Taken}
+use Rattle.setups.specs.Code.Taken.{Taken}
 use Rattle.literals.specs.Slots.{opening}
 use Rattle.setups.proofs.Models.{assigns-full}
 use Rattle.forcing.specs.Holding.{isTrue, holds, AllBroken}

@@ -13,7 +13,7 @@ use Rattle.setups.specs.Limits.{settingsMost}
 use Rattle.setups.specs.Clauses.{clauses, place, wish, literalTrue, allPass, allTrue}
 use Rattle.setups.specs.Refusals.{noClauseByte, offends}
 use Rattle.setups.specs.Setups.{Setup, settings, count, SettingTrue}
-use Rattle.setups.specs.Taken.{Taken}
+use Rattle.setups.specs.Code.Taken.{Taken}
 use Rattle.setups.proofs.Truth.{all-agree, setting-clauses}
 use Rattle.setups.proofs.LiteralLaws.{clause-bytes, place-below, clauses-literals}
 use Rattle.literals.specs.Slots.{slot}

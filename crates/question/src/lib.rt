@@ -11,7 +11,7 @@ use sets::Set;
 use sets::full;
 use setups::settings_count;
 ghost use Rattle.setups.specs.Setups.{setup};
-ghost use Rattle.setups.specs.Taken.{Taken};
+ghost use Rattle.setups.specs.Code.Taken.{Taken};
 ghost use Rattle.question.specs.Question.{Says};
 
 // Yes, with the settings that a model makes true which meets what is asked; No, where no such model breaks every given-up setting.

@@ -11,16 +11,17 @@ use Rattle.numbers.proofs.Deciding.{cond-case}
 use Rattle.frames.specs.declared.frames.Found.{Found}
 use Rattle.frames.specs.declared.frames.Found.the-variants.{Header, Hard, Soft, End, NoFrame}
 use Rattle.frames.specs.Frames.{lines, hardKind, softKind, Frame, header, hard, soft, end, noFrame, frame}
-use Rattle.frames.specs.Found.{placeAfter, found, foundAt, nextPlace}
+use Rattle.frames.specs.Code.Found.{placeAfter, found, foundAt, nextPlace}
 use Rattle.frames.proofs.Lines.{first}
 use Rattle.read.specs.declared.Checked.{Checked}
 use Rattle.read.specs.declared.Checked.the-variants.{Good, Bad}
-use Rattle.read.specs.declared.Progress.{Progress}
-use Rattle.read.specs.declared.Progress.the-variants.{Fresh, Under}
+use Rattle.read.specs.declared.Stage.{Stage}
+use Rattle.read.specs.declared.Stage.the-variants.{Fresh, Under}
 use Rattle.read.specs.declared.Advance.{Advance}
 use Rattle.read.specs.declared.Advance.the-variants.{On, Over}
-use Rattle.read.specs.Texts.{Sofar, fresh, under, over, broken, ending, following, good, bad, close, follow, judge, isBad, hardOf, softOf, checked}
-use Rattle.read.specs.Passes.{advance, grown, literalCount, hardBytes, softBytes}
+use Rattle.read.specs.Texts.{Sofar, fresh, under, closed, spoilt, ending, following, good, bad, close, follow, judge, isBad, hardOf, softOf}
+use Rattle.read.specs.Code.Passes.{checked}
+use Rattle.read.specs.Code.Passes.{advance, grown, literalsFound, hardBytes, softBytes}
 use Rattle.read.proofs.Following.{Real, Clause, clause, within, follow-end, follow-bad, follow-none, follow-frame}
 
 -- ---- which frame is found
@@ -53,14 +54,14 @@ module _ (t : List ℕ) (at k place : ℕ) where
   soft-clause e = let f = found-tells t at (Soft k place) e in clause t at (soft (f .0)) softKind (f .0) k (f .1) tt refl (f .2)
 
 -- a literal takes two digits
-fits-at : (at : ℕ) (f : Frame) → at + 2 * literalCount (found at f) ≤ nextPlace at (found at f)
+fits-at : (at : ℕ) (f : Frame) → at + 2 * literalsFound (found at f) ≤ nextPlace at (found at f)
 fits-at at (header count) = omega arith
 fits-at at (hard ls) = omega arith
 fits-at at (soft ls) = omega arith
 fits-at at end = omega arith
 fits-at at noFrame = omega arith
 
-literals-fit : (t : List ℕ) (at : ℕ) (r : Found) → r ≡ foundAt t at → at + 2 * literalCount r ≤ nextPlace at r
+literals-fit : (t : List ℕ) (at : ℕ) (r : Found) → r ≡ foundAt t at → at + 2 * literalsFound r ≤ nextPlace at r
 unfolding foundAt
 literals-fit t at r e = rw e (fits-at at (frame (first (drop at t))))
 
@@ -80,7 +81,7 @@ pub record Underway (t : List ℕ) (at count hards softs line : ℕ) : Type 0 wh
   pub goes : follow line (under count h s) (lines (drop at t)) ≡ judge t
 
 -- the lines from there on decide what the text says
-abbrev pub Reached : List ℕ → ℕ → Progress → Type 0
+abbrev pub Reached : List ℕ → ℕ → Stage → Type 0
 Reached t at Fresh = follow 1 fresh (lines (drop at t)) ≡ judge t
 Reached t at (Under count hards softs line) = Underway t at count hards softs line
 
@@ -88,37 +89,37 @@ pub begins : (t : List ℕ) → Reached t 0 Fresh
 unfolding judge
 begins t = refl
 
-abbrev pub hardCome : (t : List ℕ) (at : ℕ) (progress : Progress) → Reached t at progress → List ℕ
+abbrev pub hardCome : (t : List ℕ) (at : ℕ) (stage : Stage) → Reached t at stage → List ℕ
 hardCome t at Fresh u = []
 hardCome t at (Under count hards softs line) u = u .h
 
-abbrev pub softCome : (t : List ℕ) (at : ℕ) (progress : Progress) → Reached t at progress → List ℕ
+abbrev pub softCome : (t : List ℕ) (at : ℕ) (stage : Stage) → Reached t at stage → List ℕ
 softCome t at Fresh u = []
 softCome t at (Under count hards softs line) u = u .s
 
 module _ (t : List ℕ) (at : ℕ) where
   -- what has come with the frame that is found here
-  abbrev pub hardThen : (progress : Progress) → Reached t at progress → Found → List ℕ
-  hardThen progress u r = hardCome t at progress u ++ hardBytes t at r
+  abbrev pub hardThen : (stage : Stage) → Reached t at stage → Found → List ℕ
+  hardThen stage u r = hardCome t at stage u ++ hardBytes t at r
 
-  abbrev pub softThen : (progress : Progress) → Reached t at progress → Found → List ℕ
-  softThen progress u r = softCome t at progress u ++ softBytes t at r
+  abbrev pub softThen : (stage : Stage) → Reached t at stage → Found → List ℕ
+  softThen stage u r = softCome t at stage u ++ softBytes t at r
 
   -- the pass goes on at a place nearer to the text's end; or it is over with what the text says, and all of a good text has come
-  abbrev pub Leads : (progress : Progress) → Reached t at progress → Found → Advance → Type 0
-  Leads progress u r (On p) =
+  abbrev pub Leads : (stage : Stage) → Reached t at stage → Found → Advance → Type 0
+  Leads stage u r (On p) =
       let place = nextPlace at r in
-      (v : Reached t place p) × (length t - place < length t - at) × (hardCome t place p v ≡ hardThen progress u r) × (softCome t place p v ≡ softThen progress u r)
-  Leads progress u r (Over result) = (result ≡ checked (judge t)) × (isBad (judge t) ≡ false → (hardThen progress u r ≡ hardOf (judge t)) × (softThen progress u r ≡ softOf (judge t)))
+      (v : Reached t place p) × (length t - place < length t - at) × (hardCome t place p v ≡ hardThen stage u r) × (softCome t place p v ≡ softThen stage u r)
+  Leads stage u r (Over result) = (result ≡ checked (judge t)) × (isBad (judge t) ≡ false → (hardThen stage u r ≡ hardOf (judge t)) × (softThen stage u r ≡ softOf (judge t)))
 
   -- the sums fit where the next place does
-  pub sums-fit : (progress : Progress) (r : Found) → Reached t at progress → r ≡ foundAt t at → nextPlace at r < 2 ^ 64 → grown progress + literalCount r + 1 < 2 ^ 64
+  pub sums-fit : (stage : Stage) (r : Found) → Reached t at stage → r ≡ foundAt t at → nextPlace at r < 2 ^ 64 → grown stage + literalsFound r + 1 < 2 ^ 64
   sums-fit Fresh r goes e l = omega (arith, literals-fit t at r e)
   sums-fit (Under count hards softs line) r u e l = omega (arith, u .small, literals-fit t at r e)
 
   -- a bad text
-  bad-leads : (progress : Progress) (u : Reached t at progress) (r : Found) (n : ℕ) → judge t ≡ bad n → Leads progress u r (Over (Bad n))
-  bad-leads progress u r n b = (rw b, λ e. absurd (true≢false (sym (ap isBad b) ∙ e)))
+  bad-leads : (stage : Stage) (u : Reached t at stage) (r : Found) (n : ℕ) → judge t ≡ bad n → Leads stage u r (Over (Bad n))
+  bad-leads stage u r n b = (rw b, λ e. absurd (true≢false (sym (ap isBad b) ∙ e)))
 
   module _ (n : ℕ) (sofar : Sofar) (goes : follow n sofar (lines (drop at t)) ≡ judge t) where
     -- past a frame
@@ -126,7 +127,7 @@ module _ (t : List ℕ) (at : ℕ) where
     onward f place e r z = (rw z (sym (follow-frame t at n sofar f e r) ∙ goes), omega (arith, within t at n sofar f e r))
 
     -- at a line that may not stand here
-    stops : (f : Frame) → frame (first (drop at t)) ≡ f → close n sofar ≡ bad n → following n sofar f ≡ broken n → judge t ≡ bad n
+    stops : (f : Frame) → frame (first (drop at t)) ≡ f → close n sofar ≡ bad n → following n sofar f ≡ spoilt n → judge t ≡ bad n
     stops f e c b = sym goes ∙ follow-none t at n sofar c (rw e b)
 
   module _ (count hards softs line : ℕ) (u : Underway t at count hards softs line) where
@@ -134,14 +135,14 @@ module _ (t : List ℕ) (at : ℕ) where
     ended : (place : ℕ) → End place ≡ foundAt t at → Leads (Under count hards softs line) u (End place) (Over (cond (ltb place (length t)) (Bad (line + 1)) (Good count hards softs)))
     ended place e =
         let f = found-tells t at (End place) e in
-        let sofar = over count (u .h) (u .s) in
+        let sofar = closed count (u .h) (u .s) in
         let goes = onward line (under count (u .h) (u .s)) (u .goes) end place (f .0) tt (f .1) .0 in
         cond-case (λ (c : Checked). Leads (Under count hards softs line) u (End place) (Over c)) (ltb place (length t))
         (λ q. bad-leads (Under count hards softs line) u (End place) (line + 1) (sym goes ∙ follow-bad t place (line + 1) sofar (ltb-true place (length t) q) refl))
         (λ q. let j : judge t ≡ good count (u .h) (u .s) = sym goes ∙ follow-end t place (line + 1) sofar (ltb-false place (length t) q) in
         (rw (j, u .hard-is, u .soft-is), λ _. (rw (j, append-nil (u .h)), rw (j, append-nil (u .s)))))
 
-  pub leads : (progress : Progress) (r : Found) (u : Reached t at progress) → r ≡ foundAt t at → Leads progress u r (advance progress r (length t))
+  pub leads : (stage : Stage) (r : Found) (u : Reached t at stage) → r ≡ foundAt t at → Leads stage u r (advance stage r (length t))
   leads Fresh (Header count place) goes e =
       let f = found-tells t at (Header count place) e in
       let on = onward 1 fresh goes (header count) place (f .0) tt (f .1) in

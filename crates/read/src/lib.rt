@@ -7,13 +7,17 @@ ghost use mathlib.Core.Path.{_≡_};
 ghost use Prim.Native.Nat.{_+_, _*_, _^_, _<_, _≤_};
 ghost use lib.ListN.{length, drop};
 ghost use lib.Seq.{sets};
-ghost use Rattle.frames.specs.Found.{bytesFrom, foundAt};
-ghost use Rattle.read.specs.Texts.{ending, judge, hardOf, softOf, checked};
-ghost use Rattle.read.specs.Passes.{advance, grown, literalCount, hardPlace, softPlace, hardBytes, softBytes, copied, Fits, Allowed};
-ghost use Rattle.read.specs.Read.{Reads};
+ghost use Rattle.frames.specs.Code.Found.{bytesFrom, foundAt};
+ghost use Rattle.read.specs.Texts.{ending, judge, hardOf, softOf};
+ghost use Rattle.read.specs.Code.Passes.{checked};
+ghost use Rattle.read.specs.Code.Passes.{advance, grown, literalsFound, hardPlace, softPlace, hardBytes, softBytes, copied, CopyFits, Allowed};
+ghost use Rattle.read.specs.Reading.{Reads};
 
 // How many bytes a text has at the most.
-const TEXT_MOST: usize = 32_768;
+pub const TEXT_MOST: usize = 32_768;
+
+// A clause's literals begin after the two digits of its kind.
+const LITERALS_AT: usize = 2;
 
 // What a text says, in numbers: the variable count and how many bytes each buffer has to hold, or the first bad line, from 1.
 enum Checked {
@@ -29,7 +33,7 @@ enum Checked {
 
 // What a pass over the lines has come to: no line yet; or the header, with its variable count, then how many bytes the clauses
 // take in each buffer, and the number of the line to come.
-enum Progress {
+enum Stage {
     Fresh,
     Under {
         count: u32,
@@ -41,19 +45,19 @@ enum Progress {
 
 // After a line the pass goes on, or is over.
 enum Advance {
-    On(Progress),
+    On(Stage),
     Over(Checked),
 }
 
 // The pass with what stands on the line to come, in a text of `size` bytes: the header first, and once, then clause frames in
 // any mixture, then FF, and nothing after it.
-fn advanced(progress: Progress, found: Found, size: usize) -> Advance
-    requires { ⌜ grown progress + literalCount found + 1 < 2 ^ 64 ⌝ }
-    ensures { λ r. ⌜ r ≡ advance progress found size ⌝ }
+fn advanced(stage: Stage, found: Found, size: usize) -> Advance
+    requires { ⌜ grown stage + literalsFound found + 1 < 2 ^ 64 ⌝ }
+    ensures { λ r. ⌜ r ≡ advance stage found size ⌝ }
 {
-    match progress {
-        Progress::Fresh => match found {
-            Found::Header { count, next: _ } => Advance::On(Progress::Under {
+    match stage {
+        Stage::Fresh => match found {
+            Found::Header { count, next: _ } => Advance::On(Stage::Under {
                 count,
                 hards: 0,
                 softs: 0,
@@ -70,20 +74,20 @@ fn advanced(progress: Progress, found: Found, size: usize) -> Advance
             Found::End { next: _ } => Advance::Over(Checked::Bad { line: 1 }),
             Found::NoFrame => Advance::Over(Checked::Bad { line: 1 }),
         },
-        Progress::Under {
+        Stage::Under {
             count,
             hards,
             softs,
             line,
         } => match found {
             Found::Header { count: _, next: _ } => Advance::Over(Checked::Bad { line }),
-            Found::Hard { literals, next: _ } => Advance::On(Progress::Under {
+            Found::Hard { literals, next: _ } => Advance::On(Stage::Under {
                 count,
                 hards: hards + (literals + 1),
                 softs,
                 line: line + 1,
             }),
-            Found::Soft { literals, next: _ } => Advance::On(Progress::Under {
+            Found::Soft { literals, next: _ } => Advance::On(Stage::Under {
                 count,
                 hards,
                 softs: softs + (literals + 1),
@@ -128,12 +132,12 @@ enum Pass {
 }
 
 // Where the next hard clause goes in its buffer, and the next soft one.
-fn hard_place(progress: Progress) -> usize
-    ensures { λ r. ⌜ r ≡ hardPlace progress ⌝ }
+fn hard_place(stage: Stage) -> usize
+    ensures { λ r. ⌜ r ≡ hardPlace stage ⌝ }
 {
-    match progress {
-        Progress::Fresh => 0,
-        Progress::Under {
+    match stage {
+        Stage::Fresh => 0,
+        Stage::Under {
             count: _,
             hards,
             softs: _,
@@ -142,12 +146,12 @@ fn hard_place(progress: Progress) -> usize
     }
 }
 
-fn soft_place(progress: Progress) -> usize
-    ensures { λ r. ⌜ r ≡ softPlace progress ⌝ }
+fn soft_place(stage: Stage) -> usize
+    ensures { λ r. ⌜ r ≡ softPlace stage ⌝ }
 {
-    match progress {
-        Progress::Fresh => 0,
-        Progress::Under {
+    match stage {
+        Stage::Fresh => 0,
+        Stage::Under {
             count: _,
             hards: _,
             softs,
@@ -159,25 +163,25 @@ fn soft_place(progress: Progress) -> usize
 // The pass with the frame that was found at `at`: where it fills, a clause is copied to its buffer.
 fn pass_frame(
     pass: Pass,
-    progress: Progress,
+    stage: Stage,
     text: &[u8],
     at: usize,
     found: Found,
     hard: &mut [u8],
     soft: &mut [u8],
 ) -> Advance
-    requires { ⌜ (grown progress + literalCount found + 1 < 2 ^ 64) × (found ≡ foundAt (now text) at) × Fits pass progress (now text) at found (now hard) (now soft) ⌝ }
-    ensures { λ r. ⌜ (r ≡ advance progress found (length (now (text .entry)))) × (now (hard .exit) ≡ sets (now (hard .entry)) (hardPlace progress) (copied pass (hardBytes (now (text .entry)) at found))) × (now (soft .exit) ≡ sets (now (soft .entry)) (softPlace progress) (copied pass (softBytes (now (text .entry)) at found))) ⌝ }
+    requires { ⌜ (grown stage + literalsFound found + 1 < 2 ^ 64) × (found ≡ foundAt (now text) at) × CopyFits pass stage (now text) at found (now hard) (now soft) ⌝ }
+    ensures { λ r. ⌜ (r ≡ advance stage found (length (now (text .entry)))) × (now (hard .exit) ≡ sets (now (hard .entry)) (hardPlace stage) (copied pass (hardBytes (now (text .entry)) at found))) × (now (soft .exit) ≡ sets (now (soft .entry)) (softPlace stage) (copied pass (softBytes (now (text .entry)) at found))) ⌝ }
 {
-    let advance = advanced(progress, found, text.len());
+    let advance = advanced(stage, found, text.len());
     match pass {
         Pass::Check => {}
         Pass::Fill => match found {
             Found::Hard { literals, next: _ } => {
-                copy_clause(text, at + 2, literals, hard, hard_place(progress));
+                copy_clause(text, at + LITERALS_AT, literals, hard, hard_place(stage));
             }
             Found::Soft { literals, next: _ } => {
-                copy_clause(text, at + 2, literals, soft, soft_place(progress));
+                copy_clause(text, at + LITERALS_AT, literals, soft, soft_place(stage));
             }
             Found::Header { count: _, next: _ } => {}
             Found::End { next: _ } => {}
@@ -193,12 +197,12 @@ fn pass_over(text: &[u8], pass: Pass, hard: &mut [u8], soft: &mut [u8]) -> Check
     ensures { λ r. ⌜ (r ≡ checked (judge (now (text .entry)))) × (now (hard .exit) ≡ sets (now (hard .entry)) 0 (copied pass (hardOf (judge (now (text .entry)))))) × (now (soft .exit) ≡ sets (now (soft .entry)) 0 (copied pass (softOf (judge (now (text .entry)))))) ⌝ }
 {
     let mut reader = FrameReader::new(text);
-    let mut progress = Progress::Fresh;
+    let mut stage = Stage::Fresh;
     loop {
         let at = reader.at;
-        match pass_frame(pass, progress, text, at, reader.next(), hard, soft) {
+        match pass_frame(pass, stage, text, at, reader.next(), hard, soft) {
             Advance::On(next) => {
-                progress = next;
+                stage = next;
             }
             Advance::Over(checked) => {
                 return checked;

@@ -8,7 +8,8 @@ use native.Mathlib.Omega.{arith}
 use lib.ListN.{length, drop}
 use Rattle.sets.proofs.Tests.{listed-iff}
 use Rattle.setups.specs.Setups.{Setup}
-use Rattle.setups.specs.List.{ListResult, givenOut, listRefusal}
+use Rattle.setups.specs.List.{listRefusal}
+use Rattle.setups.specs.GivenOut.{ListResult, givenOut}
 use Rattle.table.specs.Rows.{neg, Row}
 use Rattle.table.proofs.Table.{table}
 use Rattle.list.proofs.Promise.{list-result-only, lists-exist}

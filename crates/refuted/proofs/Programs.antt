@@ -5,7 +5,7 @@ use mathlib.Core.List.{List, [], _∷_}
 use Prim.Native.Nat.{ℕ}
 use lib.ListN.{length, getD}
 use Rattle.setups.specs.Refusals.{finished}
-use Rattle.setups.specs.List.{ListResult, listedSets}
+use Rattle.setups.specs.GivenOut.{ListResult, listedSets}
 use Rattle.setups.proofs.Refusals.{refused-number}
 use Rattle.refuted.specs.Programs.{Program, RefusesAll, WritesNothing, Claim, Always}
 

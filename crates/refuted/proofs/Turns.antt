@@ -6,7 +6,7 @@ use native.Mathlib.Omega.{arith}
 use lib.ListN.{length}
 use Rattle.sets.specs.Turns.{Turned}
 use Rattle.setups.specs.Setups.{Setup, count}
-use Rattle.setups.specs.List.{givenOut}
+use Rattle.setups.specs.GivenOut.{givenOut}
 use Rattle.setups.specs.Turn.{turnRefusal}
 use Rattle.setups.proofs.Duality.{clashes-turned, ways-out-turned}
 use Rattle.table.specs.Rows.{Row}

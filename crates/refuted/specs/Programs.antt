@@ -8,7 +8,7 @@ use lib.ListN.{length}
 use Rattle.sets.specs.Sets.{digit}
 use Rattle.setups.specs.declared.Refusal.{Refusal}
 use Rattle.setups.specs.Refusals.{numberOf, finished}
-use Rattle.setups.specs.List.{ListResult, listedSets}
+use Rattle.setups.specs.GivenOut.{ListResult, listedSets}
 
 -- an input, the list buffer and the scratch give a result: List's input is a setup, Turn's a settings count with a list of sets
 abbrev pub Program : Type 0 → Type 0

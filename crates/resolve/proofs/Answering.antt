@@ -10,7 +10,8 @@ use Rattle.setups.specs.declared.Refusal.{Refusal}
 use Rattle.setups.specs.Limits.{setsMost}
 use Rattle.setups.specs.Setups.{setup, count}
 use Rattle.setups.specs.Refusals.{numberOf, finished, unmet}
-use Rattle.setups.specs.List.{ListResult, listedSets, ListGives}
+use Rattle.setups.specs.List.{ListGives}
+use Rattle.setups.specs.GivenOut.{ListResult, listedSets}
 use Rattle.setups.specs.Turn.{TurnGives}
 use Rattle.setups.proofs.Refusals.{refused-number, refused-not-unmet}
 use Rattle.list.proofs.Promise.{lists-exist}
@@ -23,10 +24,11 @@ use Rattle.turn.specs.declared.Turning.{Turning}
 use Rattle.turn.specs.declared.Turning.the-variants.{Listed as TurnListed, Refused as TurnRefused}
 use Rattle.read.specs.declared.Reading.{Reading}
 use Rattle.read.specs.declared.Reading.the-variants.{Read, Refused as ReadRefused}
-use Rattle.read.specs.Read.{ReadResult, answered as readAnswered}
+use Rattle.read.specs.Read.{ReadResult}
+use Rattle.read.specs.Reading.{answered as readAnswered}
 use Rattle.lines.specs.Lines.{answerLines, refusalLines}
 use Rattle.resolve.specs.Resolve.{places, scratchPlaces, reading, setupRead, listedLines, Answers, Resolves}
-use Rattle.resolve.specs.Parts.{AnswersTurn}
+use Rattle.resolve.specs.Code.Parts.{AnswersTurn}
 
 -- ---- after Turn
 

@@ -8,7 +8,8 @@ use lib.ListN.{length, drop, length-append, length-take}
 use Rattle.numbers.proofs.Deciding.{cond-case}
 use Rattle.setups.specs.Limits.{settingsMost}
 use Rattle.setups.specs.Setups.{setup, settings, Together, WayOut}
-use Rattle.setups.specs.List.{ListResult, HoldsExactly, GivesExactly, listRefusal, ListGives}
+use Rattle.setups.specs.List.{listRefusal, ListGives}
+use Rattle.setups.specs.GivenOut.{ListResult, HoldsExactly, GivesExactly}
 use Rattle.setups.specs.Turn.{TurnGives}
 use Rattle.setups.proofs.JudgeLaws.{list-taken}
 use Rattle.list.proofs.Promise.{list-means}
@@ -22,7 +23,9 @@ use Rattle.turn.specs.declared.Turning.the-variants.{Listed as TurnListed}
 use Rattle.read.specs.declared.Reading.{Reading}
 use Rattle.read.specs.declared.Reading.the-variants.{Read}
 use Rattle.read.specs.Texts.{judge, hardOf, softOf}
-use Rattle.read.specs.Read.{ReadResult, answered as readAnswered, readRefusal, filledWith, readResult}
+use Rattle.read.specs.Read.{ReadResult, readRefusal, readResult}
+use Rattle.setups.specs.Written.{written}
+use Rattle.read.specs.Reading.{answered as readAnswered}
 
 -- the places that a finished job has filled are places of its list
 held-places : {P : ℕ → Type 0} {list scratch : List ℕ} {r : ListResult} → HoldsExactly P list scratch r → r .filled ≤ length (r .list)
@@ -49,7 +52,7 @@ module _ (n : ℕ) (hard soft list scratch : List ℕ) (answer : Listing) (list�
 abbrev ReadFits : ReadResult → Type 0
 ReadFits r = (r .hardFilled ≤ length (r .hard)) × (r .softFilled ≤ length (r .soft))
 
-filled-fits : (bytes buffer : List ℕ) → length bytes ≤ length (filledWith bytes buffer)
+filled-fits : (bytes buffer : List ℕ) → length bytes ≤ length (written bytes buffer)
 filled-fits bytes buffer = omega (arith, length-append bytes (drop (length bytes) buffer))
 
 pub read-fits : (text hard soft : List ℕ) (r : ReadResult) → r ≡ readResult text hard soft → (r .hardFilled ≤ length (r .hard)) × (r .softFilled ≤ length (r .soft))

@@ -17,7 +17,8 @@ use Rattle.setups.specs.declared.Refusal.the-variants.{Size, Frame, Room}
 use Rattle.setups.specs.Limits.{hardBytesMost, softBytesMost, setsMost}
 use Rattle.setups.specs.Setups.{Setup, setup, count, Together}
 use Rattle.setups.specs.Refusals.{finished, unmet}
-use Rattle.setups.specs.List.{ListResult, listedSets, listRefusal}
+use Rattle.setups.specs.List.{listRefusal}
+use Rattle.setups.specs.GivenOut.{ListResult, listedSets}
 use Rattle.setups.specs.Turn.{turnRefusal, TurnGives}
 use Rattle.setups.proofs.Duality.{clashes-turned, clashes-exist, unmet-ways-out, unmet-clashes}
 use Rattle.setups.proofs.GivenOut.{number-so}
@@ -30,7 +31,7 @@ use Rattle.read.specs.Read.{ReadResult, textMost, readRefusal, readResult}
 use Rattle.read.proofs.Promise.{read-gives, read-accepts}
 use Rattle.lines.specs.Lines.{answerLines}
 use Rattle.resolve.specs.Resolve.{places, scratchPlaces, reading, setupRead, turnedLines, Answers, Resolves}
-use Rattle.resolve.specs.Meaning.{Resolved, Found, Refused}
+use Rattle.resolve.specs.Meaning.{Resolved, ResolvesText, RefusesText}
 
 -- ---- no refusal has the number of Unmet
 
@@ -76,7 +77,7 @@ module _ (text hard soft : List ℕ) where
 
 -- with the outcome 00 or 80 they resolve it, else they are a refusal's
 abbrev Ended : Setup → List ℕ → Type 0
-Ended g lines = ((outcome : ℕ) × ((outcome ≡ finished) ⊎ (outcome ≡ unmet)) × Resolved g outcome lines) ⊎ Refused lines
+Ended g lines = ((outcome : ℕ) × ((outcome ≡ finished) ⊎ (outcome ≡ unmet)) × Resolved g outcome lines) ⊎ RefusesText lines
 
 -- under Unmet there is no way out, and the empty set is the only clash
 unmet-resolved : (g : Setup) → ¬ Together g 0 → Resolved g unmet (answerLines unmet [] (0 ∷ []))
@@ -123,9 +124,9 @@ module _ (g : Setup) (lines : List ℕ) (p : Answers g lines) where
 -- ---- the theorem
 
 -- whatever is put out for a text either resolves the setup that the text says, with the outcome 00 or 80, or is a refusal's last line
-pub resolves-means : (text lines : List ℕ) → Resolves text lines → Found text lines ⊎ Refused lines
+pub resolves-means : (text lines : List ℕ) → Resolves text lines → ResolvesText text lines ⊎ RefusesText lines
 resolves-means text lines p =
-    cond-case (λ (x : List ℕ). lines ≡ x → Found text lines ⊎ Refused lines) (eqb (reading text .number) finished)
+    cond-case (λ (x : List ℕ). lines ≡ x → ResolvesText text lines ⊎ RefusesText lines) (eqb (reading text .number) finished)
     (λ e q.
     let s = read-said text (places hardBytesMost) (places softBytesMost) (eqb-true (reading text .number) finished e) in
     let ended : Ended (setup (s .variables) (s .hard) (s .soft)) lines = subst (λ (g : Setup). Ended g lines) (s .same) (subst (Ended (setupRead (reading text))) (sym q) (answers-mean (setupRead (reading text)) (p .answer) (p .answers))) in

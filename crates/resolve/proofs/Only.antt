@@ -9,7 +9,7 @@ use lib.Seq.{sets}
 use Rattle.setups.specs.Limits.{setsMost}
 use Rattle.setups.specs.Setups.{Setup, count}
 use Rattle.setups.specs.Refusals.{finished}
-use Rattle.setups.specs.List.{ListResult, listedSets}
+use Rattle.setups.specs.GivenOut.{ListResult, listedSets}
 use Rattle.setups.specs.Turn.{TurnGives}
 use Rattle.list.proofs.Promise.{list-result-only}
 use Rattle.turn.proofs.Promise.{turn-result-only}

@@ -14,7 +14,8 @@ use Rattle.setups.specs.declared.Refusal.the-variants.{Vars, Size}
 use Rattle.setups.specs.Limits.{variablesMost, hardBytesMost, softBytesMost, setsMost, settingsMost}
 use Rattle.setups.specs.Setups.{Setup, setup, count, WayOut, Clash}
 use Rattle.setups.specs.Refusals.{finished, unmet}
-use Rattle.setups.specs.List.{ListResult, listedSets, givenOut, listRefusal, ListGives}
+use Rattle.setups.specs.List.{listRefusal, ListGives}
+use Rattle.setups.specs.GivenOut.{ListResult, listedSets, givenOut}
 use Rattle.setups.specs.Turn.{TurnGives}
 use Rattle.setups.proofs.Duality.{unmet-ways-out}
 use Rattle.setups.proofs.JudgeLaws.{list-taken}

@@ -2,4 +2,4 @@
 pub mod Resolve
 pub mod Meaning
 -- what its parts promise each other
-pub mod Parts
+pub mod Code

@@ -18,7 +18,7 @@ pub record Resolved (g : Setup) (outcome : ℕ) (lines : List ℕ) : Type 0 wher
   pub all-clashes : Exactly (Clash g) clashes
 
 -- the text says a setup, and with the outcome 00 or 80 the lines resolve it
-pub record Found (text lines : List ℕ) : Type 0 where
+pub record ResolvesText (text lines : List ℕ) : Type 0 where
   pub variables : ℕ
   pub hard : List ℕ
   pub soft : List ℕ
@@ -28,7 +28,7 @@ pub record Found (text lines : List ℕ) : Type 0 where
   pub resolved : Resolved (setup variables hard soft) outcome lines
 
 -- any other outcome stands alone, on the last line with both counts 0
-pub record Refused (lines : List ℕ) : Type 0 where
+pub record RefusesText (lines : List ℕ) : Type 0 where
   pub number : ℕ
   pub not-finished : number ≢ finished
   pub not-unmet : number ≢ unmet

@@ -2,13 +2,14 @@
 use mathlib.Core.Path.{_≡_, refl}
 use mathlib.Core.Bool.{cond}
 use mathlib.Core.List.{List, [], _∷_}
-use Prim.Native.Nat.{ℕ}
+use Prim.Native.Nat.{ℕ, _+_}
 use lib.Dec.{eqb}
 use lib.ListN.{take, replicate}
 use Rattle.setups.specs.Limits.{hardBytesMost, softBytesMost, setsMost}
 use Rattle.setups.specs.Setups.{Setup, setup, count}
 use Rattle.setups.specs.Refusals.{finished, unmet}
-use Rattle.setups.specs.List.{ListResult, listedSets, ListGives}
+use Rattle.setups.specs.List.{ListGives}
+use Rattle.setups.specs.GivenOut.{ListResult, listedSets}
 use Rattle.setups.specs.Turn.{TurnGives}
 use Rattle.read.specs.Read.{ReadResult, readResult}
 use Rattle.lines.specs.Lines.{answerLines, refusalLines, Puts}
@@ -18,7 +19,7 @@ abbrev pub places : ℕ → List ℕ
 places n = replicate n 0
 
 abbrev pub scratchPlaces : ℕ
-scratchPlaces = 1025
+scratchPlaces = setsMost + 1
 
 -- what Read gives back
 abbrev pub reading : List ℕ → ReadResult

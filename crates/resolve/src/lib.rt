@@ -25,11 +25,11 @@ ghost use Rattle.setups.specs.Limits.{setsMost};
 ghost use Rattle.setups.specs.Setups.{setup};
 ghost use Rattle.setups.specs.Refusals.{unmet};
 ghost use Rattle.lines.specs.Lines.{answerLines, outputMost, Puts};
-ghost use Rattle.resolve.specs.Parts.{AnswersTurn};
+ghost use Rattle.resolve.specs.Code.Parts.{AnswersTurn};
 ghost use Rattle.resolve.specs.Resolve.{PutsOut, Answers, Resolves};
 
 // How many bytes come out at the most: two full lists of lines, and the last line.
-pub const OUTPUT_MOST: usize = 22_541;
+pub const OUTPUT_MOST: usize = 2 * SETS_MOST * SET_LINE + LAST_LINE;
 
 // "a scratch of 1,025": one place more than a list has.
 const SCRATCH_PLACES: usize = SETS_MOST + 1;

@@ -12,8 +12,9 @@ use Rattle.numbers.proofs.Deciding.{bool-case, cond-case}
 use Rattle.setups.specs.declared.Seen.{Seen}
 use Rattle.setups.specs.declared.Seen.the-variants.{AllFalse, OneFree, Enough}
 use Rattle.setups.specs.Clauses.{push, clauses}
-use Rattle.setups.specs.Searching.{see, judge, scan}
+use Rattle.setups.specs.Searching.{see, seeClause, scan}
 use Rattle.setups.specs.Ask.{units}
+use Rattle.setups.proofs.Truth.{clauses-push}
 use Rattle.setups.proofs.CheckLaws.{push-length}
 use Rattle.scans.specs.declared.Scanned.{Scanned}
 use Rattle.scans.specs.Scans.{decides, clausesPassed, scanned, further}
@@ -27,11 +28,11 @@ orRest (OneFree b) rest = record { seen = OneFree b; passed = 0 }
 orRest Enough rest = further 1 rest
 
 scanned-clause : (values clause : List ℕ) (rest : List (List ℕ))
-    → scanned values (clause ∷ rest) ≡ orRest (judge values AllFalse clause) (scanned values rest)
+    → scanned values (clause ∷ rest) ≡ orRest (seeClause values AllFalse clause) (scanned values rest)
 unfolding scanned
-scanned-clause values clause rest = go (judge values AllFalse clause) refl
+scanned-clause values clause rest = go (seeClause values AllFalse clause) refl
   where
-    go : (k : Seen) → judge values AllFalse clause ≡ k → scanned values (clause ∷ rest) ≡ orRest k (scanned values rest)
+    go : (k : Seen) → seeClause values AllFalse clause ≡ k → scanned values (clause ∷ rest) ≡ orRest k (scanned values rest)
     go AllFalse e = rw (e, scanned, scan, clausesPassed)
     go (OneFree b) e = rw (e, scanned, scan, clausesPassed)
     go Enough e = rw (e, scanned, scan, clausesPassed)
@@ -51,7 +52,7 @@ further-further k j s = rw add-assoc
 -- the clauses that are left, of whose first one `seen` is known so far
 abbrev resumed : List ℕ → Seen → List (List ℕ) → Scanned
 resumed values seen [] = record { seen = Enough; passed = 0 }
-resumed values seen (clause ∷ rest) = orRest (judge values seen clause) (scanned values rest)
+resumed values seen (clause ∷ rest) = orRest (seeClause values seen clause) (scanned values rest)
 
 resumed-start : (values : List ℕ) (cs : List (List ℕ)) → resumed values AllFalse cs ≡ scanned values cs
 unfolding scanned
@@ -60,14 +61,9 @@ resumed-start values (clause ∷ rest) = sym (scanned-clause values clause rest)
 
 resumed-push : (values : List ℕ) (seen : Seen) (b : ℕ) (cs : List (List ℕ))
     → resumed values seen (push b cs) ≡ resumed values (see values seen b) cs
-unfolding judge
+unfolding seeClause
 resumed-push values seen b [] = refl
 resumed-push values seen b (clause ∷ rest) = refl
-
-resumed-literal : (values : List ℕ) (seen : Seen) (b : ℕ) (bytes : List ℕ) → b ≢ 0
-    → resumed values seen (clauses (b ∷ bytes)) ≡ resumed values (see values seen b) (clauses bytes)
-resumed-literal values seen zero bytes n = absurd (n refl)
-resumed-literal values seen (suc b) bytes n = resumed-push values seen (suc b) (clauses bytes)
 
 -- at place i of the buffer `gone` clauses have been passed, `seen` is known of the next one, and the bytes from there on give the rest
 pub record ScansFrom (values bytes : List ℕ) (seen : Seen) (gone i : ℕ) : Type 0 where
@@ -82,7 +78,7 @@ scan-starts values bytes =
 module _ {values bytes : List ℕ} {seen : Seen} {gone i : ℕ} (at : ScansFrom values bytes seen gone i) where
   end-here : i < length bytes → getD bytes i 0 ≡ 0
       → scanned values (clauses bytes) ≡ further gone (orRest seen (scanned values (clauses (drop (i + 1) bytes))))
-  unfolding judge
+  unfolding seeClause
   end-here l z = at .gives ∙ rw (front bytes i l, z)
 
   -- a literal is added to the clause so far
@@ -90,7 +86,7 @@ module _ {values bytes : List ℕ} {seen : Seen} {gone i : ℕ} (at : ScansFrom 
   scan-literal l n = record {
     inside = omega arith;
     fewer = omega (arith, at .fewer);
-    gives = at .gives ∙ rw (front bytes i l, resumed-literal values seen (getD bytes i 0) (drop (i + 1) bytes) n);
+    gives = at .gives ∙ rw (front bytes i l, clauses-push (getD bytes i 0) (drop (i + 1) bytes) n, resumed-push);
   }
 
   -- a clause ends that doesn't decide
@@ -123,7 +119,7 @@ units-start values assumed = record { inside = omega arith; gives = rw zero-add 
 module _ {values assumed : List ℕ} {i : ℕ} (at : UnitsFrom values assumed i) where
   unit-here : i < length assumed
       → scanned values (units assumed) ≡ further i (orRest (see values AllFalse (getD assumed i 0)) (scanned values (units (drop (i + 1) assumed))))
-  unfolding judge
+  unfolding seeClause
   unit-here l = at .gives ∙ rw (front assumed i l, scanned-clause)
 
   pub unit-passes : i < length assumed → see values AllFalse (getD assumed i 0) ≡ Enough → UnitsFrom values assumed (i + 1)
@@ -154,7 +150,7 @@ scanned-append : (values : List ℕ) (cs ds : List (List ℕ)) → scanned value
 unfolding scanned
 scanned-append values [] ds = rw zero-add
 scanned-append values (clause ∷ rest) ds =
-    let seen = judge values AllFalse clause in
+    let seen = seeClause values AllFalse clause in
     scanned-clause values clause (rest ++ ds) ∙ ap (orRest seen) (scanned-append values rest ds)
     ∙ rest-part seen (scanned values rest) (scanned values ds) ∙ rw (← scanned-clause values clause rest)
 
@@ -173,7 +169,7 @@ unfolding clausesPassed
 passed-most values [] = omega arith
 passed-most values (clause ∷ rest) =
     let more = passed-most values rest in
-    cond-case (λ (k : ℕ). k ≤ suc (length rest)) (decides (judge values AllFalse clause)) (λ e. omega arith) (λ e. omega arith)
+    cond-case (λ (k : ℕ). k ≤ suc (length rest)) (decides (seeClause values AllFalse clause)) (λ e. omega arith) (λ e. omega arith)
 
 clauses-most : (bytes : List ℕ) → length (clauses bytes) ≤ length bytes
 clauses-most [] = omega arith

@@ -9,7 +9,7 @@ use Rattle.setups.specs.declared.Seen.{Seen}
 use Rattle.setups.specs.declared.Seen.the-variants.{AllFalse, OneFree, Enough}
 use Rattle.setups.specs.Limits.{variablesMost}
 use Rattle.setups.specs.Clauses.{clauses, LiteralOf}
-use Rattle.setups.specs.Searching.{judge, scan}
+use Rattle.setups.specs.Searching.{seeClause, scan}
 use Rattle.setups.specs.Ask.{units}
 use Rattle.scans.specs.declared.Scanned.{Scanned}
 
@@ -21,11 +21,11 @@ decides Enough = false
 
 -- how many clauses stand before the first that decides; all of them where none does
 unfoldable pub clausesPassed : List ℕ → List (List ℕ) → ℕ
-unfolding judge
+unfolding seeClause
 clausesPassed values [] = 0
 clausesPassed values (clause ∷ rest) =
     let more = 1 + clausesPassed values rest in
-    cond (decides (judge values AllFalse clause)) 0 more
+    cond (decides (seeClause values AllFalse clause)) 0 more
 
 -- what a scan decides, and how many clauses it has passed
 unfoldable pub scanned : List ℕ → List (List ℕ) → Scanned

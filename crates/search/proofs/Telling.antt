@@ -7,16 +7,17 @@ use native.Mathlib.Nat.{add-assoc}
 use native.Mathlib.Decide.{decLt}
 use native.Mathlib.Omega.{arith}
 use borrow.Author.Tests.{lt-ltb, le-ltb}
-use Rattle.setups.specs.Search.{Found, Model, None, after}
+use Rattle.setups.specs.Search.{SearchResult, Model, None, after}
 use Rattle.setups.specs.Searching.{split}
-use Rattle.setups.proofs.Visits.{visitsOf, after-count}
+use Rattle.setups.specs.Search.{visitsOf}
+use Rattle.setups.proofs.Visits.{after-count}
 use Rattle.search.specs.declared.Outcome.the-variants as outcome
 use Rattle.search.specs.declared.Visited.{Visited}
 use Rattle.search.specs.Told.{withoutModel, told, either}
 
 -- ---- one search
 
-pub told-spent : (budget used : ℕ) (r : Found) → budget < used + visitsOf r → withoutModel outcome.Spent budget ≡ told budget used r
+pub told-spent : (budget used : ℕ) (r : SearchResult) → budget < used + visitsOf r → withoutModel outcome.Spent budget ≡ told budget used r
 unfolding told
 told-spent budget used (Model m visits) h = rw (lt-ltb budget (used + visits) h)
 told-spent budget used (None visits) h = rw (lt-ltb budget (used + visits) h)
@@ -31,7 +32,7 @@ unfolding told
 told-model budget used visits m h = rw (le-ltb budget (used + visits) h)
 
 -- visits that were made before count as used
-pub told-after : (budget used k : ℕ) (r : Found) → told budget (used + k) r ≡ told budget used (after k r)
+pub told-after : (budget used k : ℕ) (r : SearchResult) → told budget (used + k) r ≡ told budget used (after k r)
 unfolding told
 told-after budget used k (Model m visits) = rw (add-assoc used k visits)
 told-after budget used k (None visits) = rw (add-assoc used k visits)
@@ -48,7 +49,7 @@ outcome-so : {a b : Visited} → a ≡ b → a .outcome ≡ b .outcome
 outcome-so e = ap (λ (a : Visited). a .outcome) e
 
 -- a search that told None has not passed the budget
-none-within : (budget used : ℕ) (r : Found) (a : Visited) → a ≡ told budget used r → a .outcome ≡ outcome.None
+none-within : (budget used : ℕ) (r : SearchResult) (a : Visited) → a ≡ told budget used r → a .outcome ≡ outcome.None
     → used + visitsOf r ≤ budget
 none-within budget used r a e n =
     by-cases (decLt budget (used + visitsOf r))
@@ -56,17 +57,17 @@ none-within budget used r a e n =
 
 -- ---- the two sides of a split
 
-after-after : (k j : ℕ) (r : Found) → after (k + j) r ≡ after k (after j r)
+after-after : (k j : ℕ) (r : SearchResult) → after (k + j) r ≡ after k (after j r)
 after-after k j (Model m visits) = rw (add-assoc k j visits)
 after-after k j (None visits) = rw (add-assoc k j visits)
 
 -- with the visit that hands over
-pub split-either : (low high : Found) → split low high ≡ after 1 (either low high)
+pub split-either : (low high : SearchResult) → split low high ≡ after 1 (either low high)
 split-either (Model m visits) high = refl
 split-either (None visits) high = after-after 1 visits high
 
 -- a first side that tells anything but None tells for both
-pub first-tells : (budget used : ℕ) (low high : Found) (a : Visited) → a ≡ told budget used low → a .outcome ≢ outcome.None
+pub first-tells : (budget used : ℕ) (low high : SearchResult) (a : Visited) → a ≡ told budget used low → a .outcome ≢ outcome.None
     → a ≡ told budget used (either low high)
 first-tells budget used (Model m visits) high a e n = e
 first-tells budget used (None visits) high a e n =
@@ -76,7 +77,7 @@ first-tells budget used (None visits) high a e n =
     (λ k. absurd (n (outcome-so (e ∙ sym (told-none budget used visits (omega arith))))))
 
 -- where it tells None, the second side tells for both
-pub second-tells : (budget used : ℕ) (low high : Found) (a b : Visited) → a ≡ told budget used low → a .outcome ≡ outcome.None
+pub second-tells : (budget used : ℕ) (low high : SearchResult) (a b : Visited) → a ≡ told budget used low → a .outcome ≡ outcome.None
     → b ≡ told budget (a .used) high → b ≡ told budget used (either low high)
 second-tells budget used (Model m visits) high a b e n h =
     absurd (model-not-none (outcome-so (told-model budget used visits m (none-within budget used (Model m visits) a e n) ∙ sym e) ∙ n))

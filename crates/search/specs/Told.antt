@@ -6,7 +6,7 @@ use Prim.Native.Nat.{ℕ, _+_}
 use lib.Dec.{ltb}
 use lib.ListN.{set, replicate}
 use Rattle.setups.specs.Limits.{variablesMost}
-use Rattle.setups.specs.Search.{Found, Model, None, after}
+use Rattle.setups.specs.Search.{SearchResult, Model, None, after}
 use Rattle.setups.specs.Searching
 use Rattle.search.specs.declared.Settled.{Settled}
 use Rattle.search.specs.declared.Outcome.{Outcome}
@@ -25,7 +25,7 @@ abbrev pub withoutModel : Outcome → ℕ → Visited
 withoutModel end used = record { outcome = end; used = used; values = blank }
 
 -- what is told of a search that began after `used` visits: Spent exactly when all of them are above the budget
-unfoldable pub told : ℕ → ℕ → Found → Visited
+unfoldable pub told : ℕ → ℕ → SearchResult → Visited
 told budget used (Model m visits) =
     cond (ltb budget (used + visits)) (withoutModel outcome.Spent budget) (record { outcome = outcome.Model; used = used + visits; values = m })
 told budget used (None visits) =
@@ -37,12 +37,12 @@ unfolding told
 example-told = (refl, refl)
 
 -- the second side counts only where the first fails; the visit that hands over is counted already
-abbrev pub either : Found → Found → Found
+abbrev pub either : SearchResult → SearchResult → SearchResult
 either (Model m visits) high = Model m visits
 either (None visits) high = after visits high
 
 -- the two sides of a split at this place: value 0, then value 1
-abbrev pub sides : List (List ℕ) → List ℕ → ℕ → Found
+abbrev pub sides : List (List ℕ) → List ℕ → ℕ → SearchResult
 sides cs values at = either (Searching.visit cs (set values at 0)) (Searching.visit cs (set values at 1))
 
 -- two variables, no clause: the first side has the model 0 0 after two visits

@@ -17,7 +17,7 @@ use Rattle.setups.specs.Limits.{literalsMost}
 use Rattle.setups.specs.Clauses.{push, clauses}
 use Rattle.setups.specs.Setups.{apiece, settings}
 use Rattle.setups.specs.Refusals.{firstPlace, offends, ended, someLong, long}
-use Rattle.setups.specs.Checks.{tailPlace, longPlace, settingPlace}
+use Rattle.setups.specs.Code.Checks.{tailPlace, longPlace, settingPlace}
 use Rattle.setups.proofs.Truth.{literal-goes-on, first-clause}
 
 -- ---- a walk over a buffer

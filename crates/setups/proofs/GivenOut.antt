@@ -15,7 +15,7 @@ use Rattle.sets.proofs.Lists.{exactly-unique}
 use Rattle.setups.specs.declared.Refusal.the-variants.{TooMany}
 use Rattle.setups.specs.Refusals.{numberOf, finished}
 use Rattle.setups.specs.Written.{written}
-use Rattle.setups.specs.List.{ListResult, without-list, zeroed, givenOut, GivesExactly}
+use Rattle.setups.specs.GivenOut.{ListResult, without-list, zeroed, givenOut, GivesExactly}
 
 -- the parts of one result
 pub number-so : {r s : ListResult} → r ≡ s → r .number ≡ s .number

@@ -15,7 +15,7 @@ use Rattle.setups.specs.Setups.{settings}
 use Rattle.setups.specs.Refusals.{numberOf, noClauseByte, offends, ended, long, clausesRefusal}
 use Rattle.setups.specs.declared.judging.Judged.{Judged}
 use Rattle.setups.specs.declared.judging.Judged.the-variants.{Taken, Unfit}
-use Rattle.setups.specs.Checks.{Judges}
+use Rattle.setups.specs.Code.Checks.{Judges}
 use Rattle.setups.specs.List.{listRefusal}
 use Rattle.setups.proofs.Refusals.{check-none, check-most}
 

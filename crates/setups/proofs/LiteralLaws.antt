@@ -52,11 +52,11 @@ assumed-bytes n assumed e i l = literal n (getD assumed i 0) (offends-at (noLite
 
 -- ---- the clauses of a buffer whose bytes are literals
 
-push-literals : (n x : ℕ) (cs : List (List ℕ)) → LiteralOf n x → ((clause : List ℕ) → Among clause cs → (b : ℕ) → Among b clause → LiteralOf n b)
+literals-pushed : (n x : ℕ) (cs : List (List ℕ)) → LiteralOf n x → ((clause : List ℕ) → Among clause cs → (b : ℕ) → Among b clause → LiteralOf n b)
     → (clause : List ℕ) → Among clause (push x cs) → (b : ℕ) → Among b clause → LiteralOf n b
-push-literals n x [] h f clause among b l = absurd among
-push-literals n x (c ∷ cs) h f clause (inl e) b l = ⊎-elim (λ k. rw k h) (f c (inl refl) b) (subst (Among b) e l)
-push-literals n x (c ∷ cs) h f clause (inr a) b l = f clause (inr a) b l
+literals-pushed n x [] h f clause among b l = absurd among
+literals-pushed n x (c ∷ cs) h f clause (inl e) b l = ⊎-elim (λ k. rw k h) (f c (inl refl) b) (subst (Among b) e l)
+literals-pushed n x (c ∷ cs) h f clause (inr a) b l = f clause (inr a) b l
 
 -- each literal of each clause is one of n variables
 pub clauses-literals : (n : ℕ) (bytes : List ℕ) → ((i : ℕ) → i < length bytes → getD bytes i 0 ≢ 0 → LiteralOf n (getD bytes i 0))
@@ -65,5 +65,5 @@ clauses-literals n [] f clause among b l = absurd among
 clauses-literals n (zero ∷ bytes) f clause (inl e) b l = absurd (subst (Among b) e l)
 clauses-literals n (zero ∷ bytes) f clause (inr a) b l = clauses-literals n bytes (λ i h. f (suc i) (suc-le-suc h)) clause a b l
 clauses-literals n (suc x ∷ bytes) f clause among b l =
-    push-literals n (suc x) (clauses bytes) (f 0 (zero-lt-suc (length bytes)) (suc-ne-zero x))
+    literals-pushed n (suc x) (clauses bytes) (f 0 (zero-lt-suc (length bytes)) (suc-ne-zero x))
     (clauses-literals n bytes (λ i h. f (suc i) (suc-le-suc h))) clause among b l

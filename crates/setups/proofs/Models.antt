@@ -11,7 +11,7 @@ use lib.Seq.{getD-set-same, ext-getD}
 use Rattle.numbers.proofs.Deciding.{and-left, and-right, and-both, or-left, or-right, or-cases}
 use Rattle.setups.specs.Clauses.{Assigns, place, literalTrue, clauseTrue, allTrue}
 use Rattle.setups.specs.Settling.{isFree, isFalse, allFalse, broken, Settles}
-use Rattle.setups.specs.Search.{Found, Model, None, after, Lowest, Visit, visit-fails, visit-models, split-low, split-high}
+use Rattle.setups.specs.Search.{SearchResult, Model, None, after, Lowest, Visit, visit-fails, visit-models, split-low, split-high}
 use Rattle.setups.specs.Searching.{visit, search}
 use Rattle.setups.specs.Meaning.{Earlier, Before, First, Means}
 use Rattle.setups.proofs.Settling.{free-value, true-not-false, literal-cases, Grows, grows-trans, set-grows, set-within, broken-grows}
@@ -90,7 +90,7 @@ pub record FirstWithin (cs : List (List ℕ)) (values m : List ℕ) : Type 0 whe
   pub first : (m′ : List ℕ) → Grows values m′ → Full m′ → T (allTrue m′ cs) → Before m m′
 
 -- what a visit finds: the first of them; or none, and then there is none
-abbrev pub MeansWithin : List (List ℕ) → List ℕ → Found → Type 0
+abbrev pub MeansWithin : List (List ℕ) → List ℕ → SearchResult → Type 0
 MeansWithin cs values (Model m visits) = FirstWithin cs values m
 MeansWithin cs values (None visits) = (m : List ℕ) → Grows values m → Full m → ¬ T (allTrue m cs)
 
@@ -132,7 +132,7 @@ module _ (cs : List (List ℕ)) (values end : List ℕ) (i : ℕ) (h : Settles c
   }
 
   -- where that side has none, the side with 1 decides
-  high-means : (visits : ℕ) (r : Found) → MeansWithin cs (set end i 0) (None visits) → MeansWithin cs (set end i 1) r
+  high-means : (visits : ℕ) (r : SearchResult) → MeansWithin cs (set end i 0) (None visits) → MeansWithin cs (set end i 1) r
       → MeansWithin cs values (after (1 + visits) r)
   high-means visits (Model m k) low r = record {
     grows = from-side 1 m (omega arith) (r .grows);
@@ -147,7 +147,7 @@ module _ (cs : List (List ℕ)) (values end : List ℕ) (i : ℕ) (h : Settles c
       (bit-cases (getD m i 0) (full i))
 
 -- a visit finds the first model within its values, or none where there is none
-pub visit-means : {cs : List (List ℕ)} {values : List ℕ} {r : Found} → Visit cs values r → MeansWithin cs values r
+pub visit-means : {cs : List (List ℕ)} {values : List ℕ} {r : SearchResult} → Visit cs values r → MeansWithin cs values r
 visit-means {cs} (visit-fails h t) = λ m g full k. true-not-broken m cs k (broken-grows cs (settle-within h g full k) t)
 visit-means {cs} (visit-models {end = end} h w full) = record {
   grows = run-grows (steps-run (h .steps));
@@ -180,7 +180,7 @@ free-grows {n} {m} a = record {
 }
 
 -- what a visit with all values free finds
-all-means : (n : ℕ) (cs : List (List ℕ)) (r : Found) → MeansWithin cs (replicate n 2) r → Means n cs r
+all-means : (n : ℕ) (cs : List (List ℕ)) (r : SearchResult) → MeansWithin cs (replicate n 2) r → Means n cs r
 all-means n cs (Model m visits) r = record {
   assigns = record { size = r .grows .size ∙ length-replicate {A = ℕ} n 2; bits = λ i l. omega (arith, r .full i) };
   holds = r .holds;

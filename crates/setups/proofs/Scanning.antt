@@ -16,16 +16,16 @@ use Rattle.setups.specs.declared.Seen.the-variants.{AllFalse, OneFree, E
 use Rattle.setups.specs.Clauses.{place, wish, literalTrue}
 use Rattle.setups.specs.Settling.{isFree, isFalse, allFalse, broken, Forces, put}
 use Rattle.setups.specs.Search.{Lowest}
-use Rattle.setups.specs.Searching.{judge, orElse, scan, freeCount, lowestFree}
+use Rattle.setups.specs.Searching.{seeClause, orElse, scan, freeCount, lowestFree}
 use Rattle.setups.proofs.Settling.{wish-small, free-value, free-not-false, true-not-false, true-not-free, each-false, Stable}
 
 -- ---- clauses
 
 -- what a judgement says of the clause: it is wholly false; it forces the literal; neither
-abbrev pub Judged : List ℕ → List ℕ → Seen → Type 0
-Judged values clause AllFalse = T (allFalse values clause)
-Judged values clause (OneFree b) = Forces values clause b
-Judged values clause Enough = ¬ T (allFalse values clause) × ((b : ℕ) → ¬ Forces values clause b)
+abbrev pub SeenRight : List ℕ → List ℕ → Seen → Type 0
+SeenRight values clause AllFalse = T (allFalse values clause)
+SeenRight values clause (OneFree b) = Forces values clause b
+SeenRight values clause Enough = ¬ T (allFalse values clause) × ((b : ℕ) → ¬ Forces values clause b)
 
 -- each literal of c stands in d too or is false
 abbrev CoveredBy : List ℕ → List ℕ → List ℕ → Type 0
@@ -49,13 +49,13 @@ module _ (values : List ℕ) where
   }
 
   -- so that they are judged alike: false literals, order and repeats do not count
-  judged-carries : (c d : List ℕ) (k : Seen) → CoveredBy values c d → CoveredBy values d c → Judged values c k → Judged values d k
-  judged-carries c d AllFalse f g r = false-carries c d g r
-  judged-carries c d (OneFree b) f g r = forces-carries c d b f g r
-  judged-carries c d Enough f g r = ((λ t. r .0 (false-carries d c f t)), λ b h. r .1 b (forces-carries d c b g f h))
+  seen-carries : (c d : List ℕ) (k : Seen) → CoveredBy values c d → CoveredBy values d c → SeenRight values c k → SeenRight values d k
+  seen-carries c d AllFalse f g r = false-carries c d g r
+  seen-carries c d (OneFree b) f g r = forces-carries c d b f g r
+  seen-carries c d Enough f g r = ((λ t. r .0 (false-carries d c f t)), λ b h. r .1 b (forces-carries d c b g f h))
 
   -- a true literal is enough
-  true-enough : (clause : List ℕ) (l : ℕ) → Among l clause → T (literalTrue values l) → Judged values clause Enough
+  true-enough : (clause : List ℕ) (l : ℕ) → Among l clause → T (literalTrue values l) → SeenRight values clause Enough
   true-enough clause l h t = (
     (λ n. true-not-false values l t (each-false values clause .0 n l h)),
     λ b f. ⊎-elim (λ e. true-not-free values l t (rw e (f .free))) (true-not-false values l t) (f .others l h),
@@ -63,38 +63,38 @@ module _ (values : List ℕ) where
 
   -- two free literals are enough
   two-enough : (clause : List ℕ) (l b : ℕ) → Among l clause → Among b clause → T (isFree values l) → T (isFree values b) → l ≢ b
-      → Judged values clause Enough
+      → SeenRight values clause Enough
   two-enough clause l b h k f g n = (
     (λ a. free-not-false values l f (each-false values clause .0 a l h)),
     λ c r. n (free-forced clause c l r h f ∙ sym (free-forced clause c b r k g)),
   )
 
   -- enough stays enough, whatever is still to be read
-  judge-enough : (clause : List ℕ) → Enough ≡ judge values Enough clause
-  unfolding judge
-  judge-enough [] = refl
-  judge-enough (b ∷ clause) =
-      let P : Seen → Type 0 = λ k. Enough ≡ judge values k clause in
-      let rest = judge-enough clause in
+  see-clause-enough : (clause : List ℕ) → Enough ≡ seeClause values Enough clause
+  unfolding seeClause
+  see-clause-enough [] = refl
+  see-clause-enough (b ∷ clause) =
+      let P : Seen → Type 0 = λ k. Enough ≡ seeClause values k clause in
+      let rest = see-clause-enough clause in
       cond-case P (isFree values b) (λ e. rest) (λ e. cond-case P (literalTrue values b) (λ t. rest) (λ t. rest))
 
   -- also as a judgement of the whole clause
-  still-enough : (whole clause : List ℕ) → Judged values whole Enough → Judged values whole (judge values Enough clause)
-  still-enough whole clause h = subst (Judged values whole) (judge-enough clause) h
+  still-enough : (whole clause : List ℕ) → SeenRight values whole Enough → SeenRight values whole (seeClause values Enough clause)
+  still-enough whole clause h = subst (SeenRight values whole) (see-clause-enough clause) h
 
   -- a literal that is neither free nor true
   is-false : (l b : ℕ) → l ≡ b → isFree values b ≡ false → literalTrue values b ≡ false → T (isFalse values l)
   is-false l b i e t = rw i (rw (e, t) tt)
 
   -- a clause whose first literal is free
-  judge-free : (l : ℕ) (clause : List ℕ) → T (isFree values l) → Judged values (l ∷ clause) (judge values (OneFree l) clause)
-  unfolding judge
-  judge-free l [] f = record { stands = inl refl; free = f; others = λ j h. ⊎-elim inl (λ z. absurd z) h }
-  judge-free l (b ∷ clause) f =
-      let P : Seen → Type 0 = λ k. Judged values (l ∷ b ∷ clause) (judge values k clause) in
+  see-clause-free : (l : ℕ) (clause : List ℕ) → T (isFree values l) → SeenRight values (l ∷ clause) (seeClause values (OneFree l) clause)
+  unfolding seeClause
+  see-clause-free l [] f = record { stands = inl refl; free = f; others = λ j h. ⊎-elim inl (λ z. absurd z) h }
+  see-clause-free l (b ∷ clause) f =
+      let P : Seen → Type 0 = λ k. SeenRight values (l ∷ b ∷ clause) (seeClause values k clause) in
       let past : CoveredBy values (l ∷ b ∷ clause) (l ∷ clause) → P (OneFree l) = λ g.
-      judged-carries (l ∷ clause) (l ∷ b ∷ clause) (judge values (OneFree l) clause) (λ j h. inl (⊎-elim inl (λ i. inr (inr i)) h)) g
-      (judge-free l clause f) in
+      seen-carries (l ∷ clause) (l ∷ b ∷ clause) (seeClause values (OneFree l) clause) (λ j h. inl (⊎-elim inl (λ i. inr (inr i)) h)) g
+      (see-clause-free l clause f) in
       cond-case P (isFree values b)
       (λ e. cond-case P (eqb l b) (λ q. past (λ j h. inl (⊎-elim inl (⊎-elim (λ i. inl (i ∙ sym (eqb-true l b q))) inr) h)))
       (λ q. still-enough (l ∷ b ∷ clause) clause (two-enough (l ∷ b ∷ clause) l b (inl refl) (inr (inl refl)) f (rw e tt) (eqb-false l b q))))
@@ -103,16 +103,16 @@ module _ (values : List ℕ) where
       (λ t. past (λ j h. ⊎-elim (λ i. inl (inl i)) (⊎-elim (λ i. inr (is-false j b i e t)) (λ i. inl (inr i))) h)))
 
   -- the judgement of a clause is right
-  judge-right : (clause : List ℕ) → Judged values clause (judge values AllFalse clause)
-  unfolding judge
-  judge-right [] = tt
-  judge-right (b ∷ clause) =
-      let P : Seen → Type 0 = λ k. Judged values (b ∷ clause) (judge values k clause) in
-      cond-case P (isFree values b) (λ e. judge-free b clause (rw e tt))
+  see-clause-right : (clause : List ℕ) → SeenRight values clause (seeClause values AllFalse clause)
+  unfolding seeClause
+  see-clause-right [] = tt
+  see-clause-right (b ∷ clause) =
+      let P : Seen → Type 0 = λ k. SeenRight values (b ∷ clause) (seeClause values k clause) in
+      cond-case P (isFree values b) (λ e. see-clause-free b clause (rw e tt))
       (λ e. cond-case P (literalTrue values b)
       (λ t. still-enough (b ∷ clause) clause (true-enough (b ∷ clause) b (inl refl) (rw t tt)))
-      (λ t. judged-carries clause (b ∷ clause) (judge values AllFalse clause) (λ j h. inl (inr h))
-      (λ j h. ⊎-elim (λ i. inr (is-false j b i e t)) inl h) (judge-right clause)))
+      (λ t. seen-carries clause (b ∷ clause) (seeClause values AllFalse clause) (λ j h. inl (inr h))
+      (λ j h. ⊎-elim (λ i. inr (is-false j b i e t)) inl h) (see-clause-right clause)))
 
 -- ---- scans
 
@@ -123,7 +123,7 @@ Scanned values cs (OneFree b) = (clause : List ℕ) × Among clause cs × Forces
 Scanned values cs Enough = Stable cs values
 
 -- a clause in front decides, or leaves it to the others
-scan-next : (values clause : List ℕ) (rest : List (List ℕ)) (k j : Seen) → Judged values clause k → Scanned values rest j
+scan-next : (values clause : List ℕ) (rest : List (List ℕ)) (k j : Seen) → SeenRight values clause k → Scanned values rest j
     → Scanned values (clause ∷ rest) (orElse k j)
 scan-next values clause rest AllFalse j h g = or-left (allFalse values clause) (broken values rest) h
 scan-next values clause rest (OneFree b) j h g = (clause, inl refl, h)
@@ -139,7 +139,7 @@ scan-told : (values : List ℕ) (cs : List (List ℕ)) → Scanned values cs (sc
 unfolding scan
 scan-told values [] = record { whole = λ t. t; calm = λ c among b f. among }
 scan-told values (clause ∷ rest) =
-    scan-next values clause rest (judge values AllFalse clause) (scan values rest) (judge-right values clause) (scan-told values rest)
+    scan-next values clause rest (seeClause values AllFalse clause) (scan values rest) (see-clause-right values clause) (scan-told values rest)
 
 -- what a scan says is right
 pub scan-right : (values : List ℕ) (cs : List (List ℕ)) (k : Seen) → scan values cs ≡ k → Scanned values cs k

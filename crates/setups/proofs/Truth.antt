@@ -1,6 +1,6 @@
--- Clauses: the first of a buffer that ends in 0, and that what passes depends only on the literals that occur.
+-- Clauses: the first of a buffer, and that what passes depends only on the literals that occur.
 use mathlib.Core.Path.{_≡_, refl, ap, ap₂}
-use mathlib.Core.Logic.{inl, inr}
+use mathlib.Core.Logic.{inl, inr, _≢_}
 use mathlib.Core.Bool.{Bool, _&&_, _||_}
 use mathlib.Core.List.{List, [], _∷_}
 use Prim.Native.Nat.{ℕ, zero, suc}
@@ -10,6 +10,11 @@ use Rattle.sets.specs.Lists.{Among}
 use Rattle.setups.specs.Clauses.{push, clauses, passes, allPass}
 use Rattle.setups.specs.Refusals.{ended}
 use Rattle.setups.specs.Setups.{apiece}
+
+-- a byte that ends no clause stands in front of the first
+pub clauses-push : (b : ℕ) (bytes : List ℕ) → b ≢ 0 → clauses (b ∷ bytes) ≡ push b (clauses bytes)
+clauses-push zero bytes n = absurd (n refl)
+clauses-push (suc b) bytes n = refl
 
 -- a literal ends no clause
 pub literal-goes-on : (b : ℕ) → ¬ T (ended (suc b ∷ []))

@@ -13,7 +13,7 @@ use Rattle.numbers.proofs.Deciding.{T-dec}
 use Rattle.setups.specs.declared.Seen.{Seen}
 use Rattle.setups.specs.declared.Seen.the-variants.{AllFalse, OneFree, Enough}
 use Rattle.setups.specs.Settling.{broken, put, Forced, no-step, step-on, Settles}
-use Rattle.setups.specs.Search.{Found, Model, None, after, Lowest, Visit, visit-fails, visit-models, split-low, split-high}
+use Rattle.setups.specs.Search.{visitsOf, SearchResult, Model, None, after, Lowest, Visit, visit-fails, visit-models, split-low, split-high}
 use Rattle.setups.specs.Searching.{scan, freeCount, lowestFree, Settled, settleFor, settle, split, visitFor, visit}
 use Rattle.setups.proofs.Settling.{Run, run-ends, run-on, Stable, steps-run, runs-alike, settles-ended}
 use Rattle.setups.proofs.Scanning.{scan-right, free-set, free-put, Full, lowest-cases, lowest-only, lowest-none}
@@ -132,7 +132,7 @@ settle-fewer cs values = run-fewer (settle-ran (suc (freeCount values)) cs value
 -- ---- visits, one inside the other
 
 -- a visit, from the values that settling gives and from what its two sides give
-abbrev pub visited : Settled → Found → Found → Found
+abbrev pub visited : Settled → SearchResult → SearchResult → SearchResult
 visited s low high =
     elim (s .fails) [
       | true ↦ None 1
@@ -140,7 +140,7 @@ visited s low high =
     ]
 
 -- the sides count only where a value is free
-visited-alike : (s : Settled) (low high low′ high′ : Found) → (Lowest (s .values) (lowestFree (s .values)) → (low ≡ low′) × (high ≡ high′))
+visited-alike : (s : Settled) (low high low′ high′ : SearchResult) → (Lowest (s .values) (lowestFree (s .values)) → (low ≡ low′) × (high ≡ high′))
     → visited s low high ≡ visited s low′ high′
 visited-alike s low high low′ high′ f = go (s .fails) refl (lowest-cases (s .values))
   where
@@ -218,7 +218,7 @@ split-lowest {cs} {values} {end} {i} h w l =
     ⊎-elim (λ k. absurd (w (k .1))) (λ k. rw (lowest-only l) at (visit-split cs values end (k .1) inside)) (settle-right h)
 
 -- each of its visits gives what is computed
-pub visits-are : {cs : List (List ℕ)} {values : List ℕ} {r : Found} → Visit cs values r → r ≡ visit cs values
+pub visits-are : {cs : List (List ℕ)} {values : List ℕ} {r : SearchResult} → Visit cs values r → r ≡ visit cs values
 visits-are {cs} {values} (visit-fails h t) = ⊎-elim (λ k. sym (visit-none cs values (k .0))) (λ k. absurd (k .0 t)) (settle-right h)
 visits-are {cs} {values} (visit-models {end = end} h w full) =
     let none : length end ≤ lowestFree end = omega (arith, lowest-none end full) in
@@ -227,7 +227,7 @@ visits-are (split-low h w l v) = sym (split-lowest h w l ∙ rw (← visits-are 
 visits-are (split-high h w l v u) = sym (split-lowest h w l ∙ rw (← visits-are v, ← visits-are u))
 
 -- a split from its two sides
-split-visit : {cs : List (List ℕ)} {values end : List ℕ} {i : ℕ} (low high : Found) → Settles cs values end → ¬ T (broken end cs) → Lowest end i
+split-visit : {cs : List (List ℕ)} {values end : List ℕ} {i : ℕ} (low high : SearchResult) → Settles cs values end → ¬ T (broken end cs) → Lowest end i
     → Visit cs (set end i 0) low → Visit cs (set end i 1) high → Visit cs values (split low high)
 split-visit (Model m visits) high s w l v u = split-low s w l v
 split-visit (None visits) high s w l v u = split-high s w l v u
@@ -262,23 +262,18 @@ pub visits-exist : (cs : List (List ℕ)) (values : List ℕ) → Visit cs value
 visits-exist cs values = visit-some (suc (freeCount values)) cs values (le-refl (suc (freeCount values)))
 
 -- and it gives one result only, count and all
-pub visits-only : {cs : List (List ℕ)} {values : List ℕ} {r r′ : Found} → Visit cs values r → Visit cs values r′ → r ≡ r′
+pub visits-only : {cs : List (List ℕ)} {values : List ℕ} {r r′ : SearchResult} → Visit cs values r → Visit cs values r′ → r ≡ r′
 visits-only v u = visits-are v ∙ sym (visits-are u)
 
 -- ---- the count
 
--- how many visits a search took
-abbrev pub visitsOf : Found → ℕ
-visitsOf (Model m visits) = visits
-visitsOf (None visits) = visits
-
 -- with so many more
-pub after-count : (k : ℕ) (r : Found) → visitsOf (after k r) ≡ k + visitsOf r
+pub after-count : (k : ℕ) (r : SearchResult) → visitsOf (after k r) ≡ k + visitsOf r
 after-count k (Model m visits) = refl
 after-count k (None visits) = refl
 
 -- every search takes at least one
-pub visits-one : {cs : List (List ℕ)} {values : List ℕ} {r : Found} → Visit cs values r → 1 ≤ visitsOf r
+pub visits-one : {cs : List (List ℕ)} {values : List ℕ} {r : SearchResult} → Visit cs values r → 1 ≤ visitsOf r
 visits-one (visit-fails h t) = omega arith
 visits-one (visit-models h w full) = omega arith
 visits-one (split-low h w l v) = omega arith

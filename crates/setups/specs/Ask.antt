@@ -8,7 +8,7 @@ use lib.ListN.{length}
 use Rattle.setups.specs.declared.Refusal.the-variants.{Vars, Size, Literal, Tail, Long, Spent, Room}
 use Rattle.setups.specs.Limits.{variablesMost, hardBytesMost, assumedMost}
 use Rattle.setups.specs.Clauses.{clauses}
-use Rattle.setups.specs.Search.{Found, Model, None}
+use Rattle.setups.specs.Search.{SearchResult, Model, None}
 use Rattle.setups.specs.Searching.{search}
 use Rattle.setups.specs.Refusals.{numberOf, finished, noModel, check, noLiteral, noClauseByte, offends, ended, long}
 use Rattle.setups.specs.Written.{written}
@@ -39,7 +39,7 @@ askRefusal n bytes assumed room =
     (check (long bytes) Long 0)))))
 
 -- after the search, under a budget: the model's bytes are written, a byte a variable
-abbrev pub searchedResult : ℕ → List ℕ → Found → AskResult
+abbrev pub searchedResult : ℕ → List ℕ → SearchResult → AskResult
 searchedResult budget places (Model m visits) =
     cond (ltb budget visits) (record { number = numberOf Spent; visits = 0; model = places })
     (record { number = finished; visits = visits; model = written m places })

@@ -61,6 +61,8 @@ clauseTrue m clause = passes (literalTrue m) clause
 abbrev pub allTrue : List ℕ → List (List ℕ) → Bool
 allTrue m cs = allPass (literalTrue m) cs
 
--- with variable 1 at 1 and variable 2 at 0: (−1 −2) is true, (−1 2) is not
-example-true : (allTrue (1 ∷ 0 ∷ []) ((129 ∷ 130 ∷ []) ∷ []) ≡ true) × (allTrue (1 ∷ 0 ∷ []) ((129 ∷ 2 ∷ []) ∷ []) ≡ false)
-example-true = (refl, refl)
+-- with variable 1 at 1 and variable 2 at 0: (−1 −2) is true, (−1 2) and the empty clause are not
+example-true :
+    (allTrue (1 ∷ 0 ∷ []) ((129 ∷ 130 ∷ []) ∷ []) ≡ true) × (allTrue (1 ∷ 0 ∷ []) ((129 ∷ 2 ∷ []) ∷ []) ≡ false)
+    × (clauseTrue (1 ∷ 0 ∷ []) [] ≡ false)
+example-true = (refl, refl, refl)

@@ -9,10 +9,10 @@ pub mod Search
 pub mod Searching
 pub mod Meaning
 pub mod Refusals
-pub mod Checks
 pub mod Written
-pub mod Taken
 pub mod Ask
+pub mod GivenOut
 pub mod List
 pub mod Turn
 pub mod Mark
+pub mod Code

@@ -1,77 +1,17 @@
 -- What List gives back, for all arguments (document 01, "Ways out and clashes" and "What comes back when it can't").
-use mathlib.Core.Path.{_≡_, refl}
-use mathlib.Core.Logic.{_⊎_, _↔_}
+use mathlib.Core.Path.{_≡_}
+use mathlib.Core.Logic.{_↔_}
 use mathlib.Core.Bool.{Bool, cond, _||_}
-use mathlib.Core.List.{List, [], _∷_}
-use Prim.Native.Nat.{ℕ, _≤_, _<_}
+use mathlib.Core.List.{List}
+use Prim.Native.Nat.{ℕ}
 use lib.Dec.{T, ltb, leb, eqb}
-use lib.ListN.{length, take, drop, replicate}
+use lib.ListN.{length}
 use Rattle.sets.specs.Lists.{Exactly}
-use Rattle.setups.specs.declared.Refusal.the-variants.{Vars, Size, Work, TooMany}
+use Rattle.setups.specs.declared.Refusal.the-variants.{Vars, Size, Work}
 use Rattle.setups.specs.Limits.{variablesMost, hardBytesMost, softBytesMost, setsMost}
 use Rattle.setups.specs.Setups.{setup, Together, WayOut}
-use Rattle.setups.specs.Refusals.{numberOf, finished, unmet, check, clausesRefusal}
-use Rattle.setups.specs.Written.{written}
-
--- of List and of Turn: the answer's number, how many places Listed has filled (else 0), the list buffer and the scratch afterwards
-pub record ListResult : Type 0 where
-  pub number : ℕ
-  pub filled : ℕ
-  pub list : List ℕ
-  pub scratch : List ℕ
-
--- the sets that it has listed
-abbrev pub listedSets : ListResult → List ℕ
-listedSets r = take (r .filled) (r .list)
-
--- an answer without a list leaves the list buffer; Unmet and TooMany have set the scratch to zero, all other refusals write nothing
-abbrev pub without-list : ℕ → List ℕ → List ℕ → ListResult
-without-list number list scratch = record { number = number; filled = 0; list = list; scratch = scratch }
-
-abbrev pub zeroed : List ℕ → List ℕ
-zeroed scratch = replicate (length scratch) 0
-
--- the sets are given out: TooMany exactly when there are more than the room, which is the list buffer's length
-abbrev pub givenOut : List ℕ → List ℕ → List ℕ → ListResult
-givenOut sets list scratch =
-    cond (ltb (length list) (length sets)) (without-list (numberOf TooMany) list (zeroed scratch))
-    (record { number = finished; filled = length sets; list = written sets list; scratch = zeroed scratch })
-
--- two sets in room 3 leave the third place; in room 1 they are TooMany, and only the scratch is written
-example-given-out :
-    (givenOut (5 ∷ 6 ∷ []) (9 ∷ 9 ∷ 9 ∷ []) (9 ∷ 9 ∷ 9 ∷ 9 ∷ []) ≡ record { number = 0; filled = 2; list = 5 ∷ 6 ∷ 9 ∷ []; scratch = 0 ∷ 0 ∷ 0 ∷ 0 ∷ [] })
-    × (givenOut (5 ∷ 6 ∷ []) (9 ∷ []) (9 ∷ 9 ∷ []) ≡ record { number = 8; filled = 0; list = 9 ∷ []; scratch = 0 ∷ 0 ∷ [] })
-example-given-out = (refl, refl)
-
--- ---- what giving out says of the sets that have P: of List's ways out, and of Turn's smallest sets across a list
-
--- the room holds them; there are more than it holds
-abbrev pub Fits : (ℕ → Type 0) → ℕ → Type 0
-Fits P room = (sets : List ℕ) × Exactly P sets × (length sets ≤ room)
-
-abbrev pub Exceeds : (ℕ → Type 0) → ℕ → Type 0
-Exceeds P room = (sets : List ℕ) × Exactly P sets × (room < length sets)
-
--- Listed: the places filled hold exactly these sets, rising, and are so many; the places beyond stay, and the whole scratch is zero
-pub record HoldsExactly (P : ℕ → Type 0) (list scratch : List ℕ) (r : ListResult) : Type 0 where
-  pub sets : Exactly P (listedSets r)
-  pub places : r .filled ≡ length (listedSets r)
-  pub room : r .filled ≤ length list
-  pub beyond : drop (r .filled) (r .list) ≡ drop (r .filled) list
-  pub zeros : r .scratch ≡ zeroed scratch
-
--- The result r of a job that gives them out where it has `Passed` all that comes before.
-pub record GivesExactly (Passed : Type 0) (P : ℕ → Type 0) (list scratch : List ℕ) (r : ListResult) : Type 0 where
-  -- Listed or TooMany then
-  pub either : Passed → (r .number ≡ finished) ⊎ (r .number ≡ numberOf TooMany)
-  -- Listed exactly where they fit
-  pub lists : (r .number ≡ finished) ↔ (Passed × Fits P (length list))
-  pub holds : r .number ≡ finished → HoldsExactly P list scratch r
-  -- TooMany exactly where they don't; it leaves the list buffer
-  pub exceeds : (r .number ≡ numberOf TooMany) ↔ (Passed × Exceeds P (length list))
-  pub leaves : r .number ≡ numberOf TooMany → r ≡ without-list (numberOf TooMany) list (zeroed scratch)
-
--- ---- List
+use Rattle.setups.specs.Refusals.{unmet, check, clausesRefusal}
+use Rattle.setups.specs.GivenOut.{ListResult, without-list, zeroed, givenOut}
 
 -- 1, 2, 3, 4, 5, 6, 7; 0 where none is given. Work: "scratch shorter than room + 1"
 abbrev pub listRefusal : ℕ → List ℕ → List ℕ → ℕ → ℕ → ℕ
@@ -80,8 +20,8 @@ listRefusal n hard soft room scratchRoom =
     (check (ltb hardBytesMost (length hard) || (ltb softBytesMost (length soft) || ltb setsMost room)) Size
     (check (leb scratchRoom room) Work (clausesRefusal n hard soft 0)))
 
-abbrev pub listed : ℕ → Bool → List ℕ → List ℕ → List ℕ → ListResult
-listed refusal met ways list scratch =
+abbrev pub listedResult : ℕ → Bool → List ℕ → List ℕ → List ℕ → ListResult
+listedResult refusal met ways list scratch =
     cond (eqb refusal 0) (cond met (givenOut ways list scratch) (without-list unmet list (zeroed scratch)))
     (without-list refusal list scratch)
 
@@ -91,4 +31,4 @@ pub record ListGives (n : ℕ) (hard soft list scratch : List ℕ) (r : ListResu
   pub exact : Exactly (WayOut (setup n hard soft)) ways
   pub met : Bool
   pub meets : T met ↔ Together (setup n hard soft) 0
-  pub says : r ≡ listed (listRefusal n hard soft (length list) (length scratch)) met ways list scratch
+  pub says : r ≡ listedResult (listRefusal n hard soft (length list) (length scratch)) met ways list scratch

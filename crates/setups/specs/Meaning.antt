@@ -8,7 +8,7 @@ use lib.Dec.{T}
 use lib.ListN.{getD}
 use Rattle.setups.specs.Clauses.{Assigns, allTrue}
 use Rattle.setups.specs.Settling.{broken}
-use Rattle.setups.specs.Search.{Found, Model, None}
+use Rattle.setups.specs.Search.{SearchResult, Model, None}
 
 -- two ends of settling are alike: in both some clause is wholly false, or in neither and the values are equal
 abbrev pub Alike : List (List ℕ) → List ℕ → List ℕ → Type 0
@@ -35,6 +35,6 @@ pub record First (n : ℕ) (cs : List (List ℕ)) (m : List ℕ) : Type 0 where
   pub first : (m′ : List ℕ) → Assigns n m′ → T (allTrue m′ cs) → Before m m′
 
 -- what a search over n variables finds: the first model; or none, and then there is none
-abbrev pub Means : ℕ → List (List ℕ) → Found → Type 0
+abbrev pub Means : ℕ → List (List ℕ) → SearchResult → Type 0
 Means n cs (Model m visits) = First n cs m
 Means n cs (None visits) = (m : List ℕ) → Assigns n m → ¬ T (allTrue m cs)

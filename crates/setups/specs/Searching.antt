@@ -10,7 +10,7 @@ use Rattle.setups.specs.declared.Seen.{Seen}
 use Rattle.setups.specs.declared.Seen.the-variants.{AllFalse, OneFree, Enough}
 use Rattle.setups.specs.Clauses.{place, wish}
 use Rattle.setups.specs.Settling.{put}
-use Rattle.setups.specs.Search.{Found, Model, None, after}
+use Rattle.setups.specs.Search.{SearchResult, Model, None, after}
 
 -- a clause so far, with one free literal more; a repeated literal adds nothing
 abbrev pub more : Seen → ℕ → Seen
@@ -25,9 +25,9 @@ seeValue seen b x = cond (ltb 1 x) (more seen b) (cond (eqb x (wish b)) Enough s
 abbrev pub see : List ℕ → Seen → ℕ → Seen
 see values seen b = seeValue seen b (getD values (place b) 0)
 
-unfoldable pub judge : List ℕ → Seen → List ℕ → Seen
-judge values seen [] = seen
-judge values seen (b ∷ clause) = judge values (see values seen b) clause
+unfoldable pub seeClause : List ℕ → Seen → List ℕ → Seen
+seeClause values seen [] = seen
+seeClause values seen (b ∷ clause) = seeClause values (see values seen b) clause
 
 -- a clause that is wholly false or forces a literal decides; else the clauses after it
 abbrev pub orElse : Seen → Seen → Seen
@@ -36,9 +36,9 @@ orElse (OneFree b) rest = OneFree b
 orElse Enough rest = rest
 
 unfoldable pub scan : List ℕ → List (List ℕ) → Seen
-unfolding judge
+unfolding seeClause
 scan values [] = Enough
-scan values (clause ∷ rest) = orElse (judge values AllFalse clause) (scan values rest)
+scan values (clause ∷ rest) = orElse (seeClause values AllFalse clause) (scan values rest)
 
 -- both variables free: (1 2) has two free literals, (−2 −2) has one
 example-scan : scan (2 ∷ 2 ∷ []) ((1 ∷ 2 ∷ []) ∷ (130 ∷ 130 ∷ []) ∷ []) ≡ OneFree 130
@@ -76,12 +76,12 @@ unfolding freeCount settleFor
 settle cs values = settleFor (suc (freeCount values)) cs values
 
 -- value 0 first, then 1 if that side fails
-abbrev pub split : Found → Found → Found
+abbrev pub split : SearchResult → SearchResult → SearchResult
 split (Model m visits) high = Model m (1 + visits)
 split (None visits) high = after (1 + visits) high
 
 -- at most `most` visits one inside the other
-unfoldable pub visitFor : ℕ → List (List ℕ) → List ℕ → Found
+unfoldable pub visitFor : ℕ → List (List ℕ) → List ℕ → SearchResult
 unfolding settle lowestFree
 visitFor zero cs values = None 1
 visitFor (suc most) cs values =
@@ -95,12 +95,12 @@ visitFor (suc most) cs values =
     ]
 
 -- each visit inside another has a free value fewer
-unfoldable pub visit : List (List ℕ) → List ℕ → Found
+unfoldable pub visit : List (List ℕ) → List ℕ → SearchResult
 unfolding freeCount visitFor
 visit cs values = visitFor (suc (freeCount values)) cs values
 
 -- the whole search over n variables, all free at first
-unfoldable pub search : ℕ → List (List ℕ) → Found
+unfoldable pub search : ℕ → List (List ℕ) → SearchResult
 unfolding visit
 search n cs = visit cs (replicate n 2)
 

@@ -10,7 +10,7 @@ use Rattle.sets.specs.Tests.{fine}
 use Rattle.setups.specs.declared.Refusal.the-variants.{Size, Work, Softs, List as NotAList}
 use Rattle.setups.specs.Limits.{setsMost, settingsMost}
 use Rattle.setups.specs.Refusals.{check}
-use Rattle.setups.specs.List.{ListResult, without-list, givenOut}
+use Rattle.setups.specs.GivenOut.{ListResult, without-list, givenOut}
 
 -- 7, 2, 3, 9; 0 where none is given
 abbrev pub turnRefusal : ℕ → List ℕ → ℕ → ℕ → ℕ

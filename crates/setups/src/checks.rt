@@ -7,7 +7,7 @@ ghost use Rattle.setups.specs.Limits.{settingsMost};
 ghost use Rattle.setups.specs.Clauses.{clauses};
 ghost use Rattle.setups.specs.Setups.{settings};
 ghost use Rattle.setups.specs.Refusals.{noLiteral, noClauseByte, firstPlace};
-ghost use Rattle.setups.specs.Checks.{tailPlace, longPlace, settingPlace};
+ghost use Rattle.setups.specs.Code.Checks.{tailPlace, longPlace, settingPlace};
 
 // The most settings, as a count of places.
 const SETTINGS_MOST: usize = sets::SETTINGS_MOST as usize;

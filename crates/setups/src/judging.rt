@@ -8,7 +8,7 @@ use crate::checks::tail_place;
 ghost use mathlib.Core.Path.{_≡_};
 ghost use mathlib.Core.Bool.{true, not, _||_};
 ghost use Rattle.setups.specs.Refusals.{noClauseByte, offends, ended, long};
-ghost use Rattle.setups.specs.Checks.{Judges};
+ghost use Rattle.setups.specs.Code.Checks.{Judges};
 
 // Taken, with the number of settings, or why not.
 pub enum Judged {

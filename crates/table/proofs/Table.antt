@@ -12,7 +12,8 @@ use Rattle.sets.proofs.Turning.{turn-exists}
 use Rattle.setups.specs.Setups.{Setup, setup, count, WayOut, Clash}
 use Rattle.setups.specs.Tests.{together, wayOut, clash}
 use Rattle.setups.specs.Ask.{askResult}
-use Rattle.setups.specs.List.{ListResult, listRefusal, listed, ListGives}
+use Rattle.setups.specs.List.{listRefusal, listedResult, ListGives}
+use Rattle.setups.specs.GivenOut.{ListResult}
 use Rattle.setups.proofs.Tests.{together-iff, way-out-iff, clash-iff}
 use Rattle.table.specs.Rows.{Row, UnmetRow, P4-hard, P4-soft, P4-ways}
 use Rattle.table.specs.Table.{Table}
@@ -45,7 +46,7 @@ unmet-row {g} unmet t = record {
 
 -- List over P4: what it says in a room follows from the row
 P4-lists : (list scratch : List ℕ) (r : ListResult)
-    → r ≡ listed (listRefusal 4 P4-hard P4-soft (length list) (length scratch)) true P4-ways list scratch → ListGives 4 P4-hard P4-soft list scratch r
+    → r ≡ listedResult (listRefusal 4 P4-hard P4-soft (length list) (length scratch)) true P4-ways list scratch → ListGives 4 P4-hard P4-soft list scratch r
 P4-lists list scratch r says = record {
   ways = P4-ways;
   exact = ways-exactly (setup 4 P4-hard P4-soft) P4-ways (3 ∷ 6 ∷ 12 ∷ []) tt;

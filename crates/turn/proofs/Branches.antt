@@ -8,7 +8,7 @@ use Rattle.sets.specs.Sets.{In, Within, Share}
 use Rattle.numbers.proofs.Deciding.{stable}
 use Rattle.sets.proofs.Digits.{none-in, within-self, missing, share-dec, out-in, out-within}
 use Rattle.members.specs.Members.{Hits, Alone, Own, Waits}
-use Rattle.turn.specs.Branches.{Branch, TurnsOn}
+use Rattle.turn.specs.Code.Branches.{Branch, TurnsOn}
 
 module _ {members : List ℕ} {taken left : ℕ} where
   -- ---- empty branches

@@ -15,15 +15,15 @@ use Rattle.sets.proofs.Digits.{within-le, none-in, none-within, in-below, full-
 use Rattle.sets.proofs.Lists.{rising-shorter}
 use Rattle.sets.proofs.Turning.{turn-exists}
 use Rattle.setups.specs.Refusals.{numberOf}
-use Rattle.setups.specs.List.{ListResult}
+use Rattle.setups.specs.GivenOut.{ListResult}
 use Rattle.setups.specs.Turn.{turnRefusal, TurnGives}
 use Rattle.setups.specs.declared.Refusal.{Refusal}
 use Rattle.setups.specs.declared.Refusal.the-variants.{TooMany}
 use Rattle.setups.proofs.Refusals.{refused-number}
 use Rattle.turn.specs.declared.Turning.the-variants.{Listed, Refused}
-use Rattle.turn.specs.Branches.{Branch}
-use Rattle.turn.specs.Growing.{Grown}
-use Rattle.turn.specs.Giving.{GivesTurn}
+use Rattle.turn.specs.Code.Branches.{Branch}
+use Rattle.turn.specs.Code.Growing.{Grown}
+use Rattle.turn.specs.Code.Giving.{GivesTurn}
 use Rattle.turn.specs.Turning.{answered}
 use Rattle.turn.proofs.Promise.{turns-exist}
 

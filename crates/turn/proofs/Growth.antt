@@ -6,7 +6,7 @@ use Prim.Native.Nat.{ℕ, _+_, _≤_}
 use native.Mathlib.Omega.{arith}
 use lib.ListN.{length, take, drop}
 use lib.Seq.{length-take-le, take-at}
-use Rattle.turn.specs.Growing.{placed, Ready, Grown}
+use Rattle.turn.specs.Code.Growing.{placed, Ready, Grown}
 use Rattle.turn.proofs.Placing.{placed-length, placed-listed, placed-rising}
 
 module _ {Family : ℕ → Type 0} {filled room : ℕ} {before : List ℕ} (ready : Ready Family filled room before) where

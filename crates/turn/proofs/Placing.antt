@@ -9,7 +9,7 @@ use lib.ListN.{length, getD, set, take, drop, length-append}
 use lib.Seq.{append-snoc, getD-at}
 use Rattle.numbers.proofs.Places.{front, fill-next}
 use Rattle.sets.specs.Lists.{Among, Rising}
-use Rattle.turn.specs.Growing.{placed}
+use Rattle.turn.specs.Code.Growing.{placed}
 
 -- ---- the list with the set in its place
 

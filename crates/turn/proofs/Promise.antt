@@ -19,7 +19,7 @@ use Rattle.setups.specs.declared.Refusal.the-variants.{Size, Work, Softs, TooMa
 use Rattle.setups.specs.Limits.{setsMost, settingsMost}
 use Rattle.setups.specs.Setups.{Setup, count, WayOut, Clash}
 use Rattle.setups.specs.Refusals.{numberOf, finished}
-use Rattle.setups.specs.List.{ListResult, listedSets, without-list, givenOut}
+use Rattle.setups.specs.GivenOut.{ListResult, listedSets, without-list, givenOut}
 use Rattle.setups.specs.Turn.{turnRefusal, turnedResult, TurnGives}
 use Rattle.setups.proofs.Duality.{clashes-turned, ways-out-turned}
 use Rattle.setups.proofs.GivenOut.{number-so, filled-so, list-so, scratch-so, gives-nothing, gives-exactly}

@@ -7,8 +7,8 @@ use native.Mathlib.Omega.{arith}
 use lib.ListN.{length}
 use Rattle.sets.specs.Sets.{In, Share, Joins, Leaves}
 use Rattle.sets.proofs.Digits.{in-dec, none-in, within-le}
-use Rattle.turn.specs.Branches.{Branch, TurnsOn}
-use Rattle.turn.specs.Growing.{Ready, Grown}
+use Rattle.turn.specs.Code.Branches.{Branch, TurnsOn}
+use Rattle.turn.specs.Code.Growing.{Ready, Grown}
 use Rattle.turn.proofs.Growth.{ready-first, grown-first, ready-second, grown-both}
 
 -- the branch turns on `wanted`, and `one` is the set of one of these settings: with it the taken ones are `more`, without it the ones

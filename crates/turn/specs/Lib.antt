@@ -2,6 +2,4 @@
 pub mod Turning
 pub mod Meaning
 -- what its parts promise each other
-pub mod Branches
-pub mod Growing
-pub mod Giving
+pub mod Code

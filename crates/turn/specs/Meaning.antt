@@ -7,7 +7,7 @@ use lib.ListN.{length}
 use Rattle.sets.specs.Lists.{Among}
 use Rattle.sets.specs.Turns.{SmallestCross, Fine}
 use Rattle.setups.specs.Limits.{setsMost, settingsMost}
-use Rattle.setups.specs.List.{ListResult, without-list, GivesExactly}
+use Rattle.setups.specs.GivenOut.{ListResult, without-list, GivesExactly}
 
 -- the list may be turned over n settings, into so many places and with such a scratch: none of 7, 2, 3, 9 is given
 pub record Turnable (n : ℕ) (given : List ℕ) (room scratchRoom : ℕ) : Type 0 where

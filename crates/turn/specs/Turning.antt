@@ -3,7 +3,7 @@ use mathlib.Core.Path.{_≡_, refl}
 use mathlib.Core.List.{List, [], _∷_}
 use Prim.Native.Nat.{ℕ}
 use Rattle.setups.specs.Refusals.{numberOf, finished}
-use Rattle.setups.specs.List.{ListResult, without-list}
+use Rattle.setups.specs.GivenOut.{ListResult, without-list}
 use Rattle.setups.specs.Turn.{TurnGives}
 use Rattle.setups.specs.declared.Refusal.the-variants.{TooMany}
 use Rattle.turn.specs.declared.Turning.{Turning}

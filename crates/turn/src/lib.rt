@@ -19,9 +19,9 @@ ghost use mathlib.Core.List.{_++_};
 ghost use Prim.Native.Nat.{_+_, _≤_, _<_};
 ghost use lib.ListN.{length, take, drop};
 ghost use Rattle.setups.specs.Limits.{settingsMost};
-ghost use Rattle.turn.specs.Branches.{Branch, TurnsOn};
-ghost use Rattle.turn.specs.Growing.{placed, Ready, Grown};
-ghost use Rattle.turn.specs.Giving.{GivesTurn};
+ghost use Rattle.turn.specs.Code.Branches.{Branch, TurnsOn};
+ghost use Rattle.turn.specs.Code.Growing.{placed, Ready, Grown};
+ghost use Rattle.turn.specs.Code.Giving.{GivesTurn};
 ghost use Rattle.turn.specs.Turning.{answered, Turns};
 
 // What Turn answers: it has listed so many sets, or refuses.
@@ -69,7 +69,7 @@ fn branch(
             insert(scratch, filled, taken);
             filled + 1
         }
-        Unhit::Lost => filled,
+        Unhit::Hopeless => filled,
         Unhit::Wants(wanted) => split(members, taken, left, wanted, scratch, filled, room),
     }
 }

@@ -9,7 +9,7 @@ ghost use mathlib.Core.Path.{_≡_};
 ghost use Prim.Native.Nat.{_+_, _-_, _^_, _<_};
 ghost use lib.ListN.{length, take, set};
 ghost use Rattle.setups.specs.Setups.{setup};
-ghost use Rattle.setups.specs.Taken.{Taken};
+ghost use Rattle.setups.specs.Code.Taken.{Taken};
 ghost use Rattle.walk.specs.Walking.{KeepsHighest, GivesUpHighest, Reached, Witnessed, Enters, Walked};
 
 // A node of the walk: the settings above the first `left` are decided, those of `kept` kept and those of `given` given up. At a live

@@ -18,7 +18,8 @@ use Rattle.setups.proofs.CheckLaws.{push-length}
 use Rattle.digits.specs.Digits.{digits}
 use Rattle.digits.proofs.Stores.{sets-append}
 use Rattle.frames.specs.Frames.{lineFeed, line, headerKind, hardKind, softKind, endKind}
-use Rattle.write.specs.Writing.{clauseLines, written, literalCount, textLength, firstClause}
+use Rattle.write.specs.SetupText.{clauseLines, setupText, literalCount, textLength}
+use Rattle.write.specs.Code.ClauseAt.{firstClause}
 
 -- ---- how long they are
 
@@ -137,14 +138,14 @@ no-clause bytes i l = rw (drop-of-length-le bytes l)
 -- ---- the whole text
 
 module _ (count : ℕ) (hard soft : List ℕ) where
-  pub written-length : length (written count hard soft) ≡ 8 + (length (clauseLines hardKind (clauses hard)) + length (clauseLines softKind (clauses soft)))
-  unfolding written
+  pub written-length : length (setupText count hard soft) ≡ 8 + (length (clauseLines hardKind (clauses hard)) + length (clauseLines softKind (clauses soft)))
+  unfolding setupText
   written-length =
       let h = clauseLines hardKind (clauses hard) in
       let s = clauseLines softKind (clauses soft) in
       omega (arith, length-append h (s ++ line (endKind ∷ [])), length-append s (line (endKind ∷ [])))
 
-  pub measured : textLength hard soft ≡ length (written count hard soft)
+  pub measured : textLength hard soft ≡ length (setupText count hard soft)
   unfolding textLength
   measured = omega (arith, written-length, lines-length hardKind (clauses hard), lines-length softKind (clauses soft))
 
@@ -161,8 +162,8 @@ module _ (count : ℕ) (hard soft t t₁ t₂ t₃ t₄ t₅ : List ℕ) (afterH
       → afterSoft ≡ afterHard + length (clauseLines softKind (clauses soft))
       → t₄ ≡ sets t₃ afterHard (clauseLines softKind (clauses soft))
       → t₅ ≡ sets t₄ afterSoft (digits (endKind ∷ []))
-      → set t₅ (afterSoft + 2) lineFeed ≡ sets t 0 (written count hard soft)
-  unfolding written
+      → set t₅ (afterSoft + 2) lineFeed ≡ sets t 0 (setupText count hard soft)
+  unfolding setupText
   setup-stored e₁ e₂ a e₃ b e₄ e₅ =
       let first = line (headerKind ∷ count ∷ []) in
       let h = clauseLines hardKind (clauses hard) in

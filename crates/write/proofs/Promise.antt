@@ -9,8 +9,9 @@ use Rattle.setups.proofs.Refusals.{number-only, refused-number}
 use Rattle.digits.specs.Digits.{digitOf}
 use Rattle.write.specs.declared.Writing.{Writing}
 use Rattle.write.specs.declared.Writing.the-variants.{Written, Refused}
-use Rattle.write.specs.Writing.{written, textLength}
-use Rattle.write.specs.Write.{WriteResult, answered, writeResult, Writes}
+use Rattle.write.specs.SetupText.{setupText, textLength}
+use Rattle.write.specs.Write.{WriteResult, writeResult}
+use Rattle.write.specs.Writing.{answered, Writes}
 
 -- ---- no second result
 
@@ -34,14 +35,14 @@ write-only n hard soft text a b text₁ text₂ p q =
 
 -- a Write that refuses everything
 pub write-not-refusing : ((n : ℕ) (hard soft text : List ℕ) → (refusal : Refusal) × Writes n hard soft text (Refused refusal) text) → ⊥
-unfolding written digitOf textLength writeResult
+unfolding setupText digitOf textLength writeResult
 write-not-refusing program =
     let p = program 0 [] [] (0 ∷ 0 ∷ 0 ∷ 0 ∷ 0 ∷ 0 ∷ 0 ∷ 0 ∷ []) in
     refused-number (p .0) (ap (λ (r : WriteResult). r .number) (p .1))
 
 -- a Write that writes nothing
 pub write-not-silent : ((n : ℕ) (hard soft text : List ℕ) → (answer : Writing) × Writes n hard soft text answer text) → ⊥
-unfolding written digitOf textLength writeResult
+unfolding setupText digitOf textLength writeResult
 write-not-silent program =
     let text : List ℕ = 0 ∷ 0 ∷ 0 ∷ 0 ∷ 0 ∷ 0 ∷ 0 ∷ 0 ∷ [] in
     let p = program 0 [] [] text in

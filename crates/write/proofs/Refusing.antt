@@ -16,8 +16,9 @@ use Rattle.setups.proofs.Refusals.{refused-number, check-none}
 use Rattle.setups.proofs.JudgeLaws.{FineClauses, fine-clauses}
 use Rattle.digits.proofs.Stores.{sets-front}
 use Rattle.write.specs.declared.Writing.the-variants.{Written, Refused}
-use Rattle.write.specs.Writing.{written, textLength}
-use Rattle.write.specs.Write.{WriteResult, answered, setupRefusal, writeRefusal, writeResult}
+use Rattle.write.specs.SetupText.{setupText, textLength}
+use Rattle.write.specs.Write.{WriteResult, setupRefusal, writeRefusal, writeResult}
+use Rattle.write.specs.Writing.{answered}
 use Rattle.write.proofs.ClauseLines.{measured}
 
 -- ---- a setup that passes
@@ -58,7 +59,7 @@ module _ (n : ℕ) (hard soft text : List ℕ) where
       let refusal = writeRefusal n hard soft (length text) in
       cond-case (λ (w : WriteResult). w .number ≡ finished → refusal ≡ 0) (eqb refusal 0) (λ q _. eqb-true refusal 0 q) (λ _ k. k) e
 
-  pub finishes : writeRefusal n hard soft (length text) ≡ 0 → writeResult n hard soft text ≡ record { number = finished; filled = textLength hard soft; text = written n hard soft ++ drop (length (written n hard soft)) text }
+  pub finishes : writeRefusal n hard soft (length text) ≡ 0 → writeResult n hard soft text ≡ record { number = finished; filled = textLength hard soft; text = setupText n hard soft ++ drop (length (setupText n hard soft)) text }
   unfolding writeResult
   finishes e = rw e
 
@@ -66,7 +67,7 @@ module _ (n : ℕ) (hard soft text : List ℕ) where
     pub no-room : length text < textLength hard soft → answered (Refused Room) text ≡ writeResult n hard soft text
     no-room l = refused Room (rw (← h (check (ltb (length text) (textLength hard soft)) Room 0), lt-ltb (length text) (textLength hard soft) l))
 
-    pub wrote : (filled : ℕ) (after : List ℕ) → filled ≡ textLength hard soft → textLength hard soft ≤ length text → after ≡ sets text 0 (written n hard soft) → answered (Written filled) after ≡ writeResult n hard soft text
+    pub wrote : (filled : ℕ) (after : List ℕ) → filled ≡ textLength hard soft → textLength hard soft ≤ length text → after ≡ sets text 0 (setupText n hard soft) → answered (Written filled) after ≡ writeResult n hard soft text
     wrote filled after e l a =
-        rw (e, a, sets-front text (written n hard soft) (rw (measured n hard soft) at l))
+        rw (e, a, sets-front text (setupText n hard soft) (rw (measured n hard soft) at l))
         (sym (finishes (rw (← h (check (ltb (length text) (textLength hard soft)) Room 0), le-ltb (length text) (textLength hard soft) l))))

@@ -23,7 +23,7 @@ use Rattle.frames.specs.Frames.{lineFeed, line, lines, lineBytes, headerKind, h
 use Rattle.read.specs.Texts.{Sofar, fresh, under, ending, following, good, follow, judge}
 use Rattle.read.specs.Read.{textMost, readResult}
 use Rattle.read.proofs.Answers.{fillsWith, accepts}
-use Rattle.write.specs.Writing.{Bytes, clauseLines, written, textLength, writtenMost}
+use Rattle.write.specs.SetupText.{Bytes, clauseLines, setupText, textLength, setupTextMost}
 use Rattle.write.specs.Write.{WriteResult, writeResult}
 use Rattle.write.proofs.ClauseLines.{first-of, literals-and-ends, measured}
 use Rattle.write.proofs.Refusing.{Fine, fine, not-refused, finishes}
@@ -159,8 +159,8 @@ module _ (count : ℕ) (hards softs : List ℕ) (b : count < 256) (h : Each Clau
       each (suc i) = omega arith
 
   -- what Write writes is good, and says the setup
-  written-good : judge (written count hards softs) ≡ good count hards softs
-  unfolding judge written
+  written-good : judge (setupText count hards softs) ≡ good count hards softs
+  unfolding judge setupText
   written-good =
       let hardLines = clauseLines hardKind (clauses hards) in
       let softLines = clauseLines softKind (clauses softs) in
@@ -179,11 +179,11 @@ module _ (count : ℕ) (hards softs : List ℕ) (b : count < 256) (h : Each Clau
 -- ---- a setup that Write takes
 
 module _ (count : ℕ) (hards softs : List ℕ) (f : Fine count hards softs) where
-  pub text-most : textLength hards softs ≤ writtenMost
+  pub text-most : textLength hards softs ≤ setupTextMost
   unfolding textLength
   text-most = omega (arith, literals-and-ends hards (f .in-clauses .hard-ended), literals-and-ends softs (f .in-clauses .soft-ended), f .hard-size, f .soft-size, f .in-clauses .settings-few, settings-length softs)
 
-  pub text-back : Bytes hards → Bytes softs → judge (written count hards softs) ≡ good count hards softs
+  pub text-back : Bytes hards → Bytes softs → judge (setupText count hards softs) ≡ good count hards softs
   text-back h s =
       written-good count hards softs (omega (arith, f .variables))
       (clauses-fit (clauses hards) (clauses-literals hards h) (f .in-clauses .hard-long))
@@ -197,7 +197,7 @@ pub round-trip : (count : ℕ) (hards softs text hard′ soft′ : List ℕ) →
 round-trip count hards softs text hard′ soft′ h s e hr sr =
     let taken = not-refused count hards softs text e in
     let f = fine count hards softs _ taken in
-    let whole = written count hards softs in
+    let whole = setupText count hards softs in
     let size : length whole ≤ textMost = omega (arith, text-most count hards softs f, measured count hards softs) in
     let wrote = finishes count hards softs text taken in
     ap (λ (w : WriteResult). readResult (take (w .filled) (w .text)) hard′ soft′) wrote

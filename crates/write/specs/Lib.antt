@@ -1,3 +1,5 @@
--- The text of a setup, Write's answer as the result that document 01 describes, and its promise.
-pub mod Writing
+-- The text of a setup, what Write gives back, and its promise.
+pub mod SetupText
 pub mod Write
+pub mod Writing
+pub mod Code

@@ -7,23 +7,16 @@ use lib.Dec.{ltb, eqb}
 use lib.ListN.{length}
 use Rattle.setups.specs.declared.Refusal.the-variants.{Vars, Size, Room}
 use Rattle.setups.specs.Limits.{variablesMost, hardBytesMost, softBytesMost}
-use Rattle.setups.specs.Refusals.{numberOf, finished, check, clausesRefusal}
+use Rattle.setups.specs.Refusals.{finished, check, clausesRefusal}
 use Rattle.digits.specs.Digits.{digitOf}
-use Rattle.read.specs.Read.{filledWith}
-use Rattle.write.specs.declared.Writing.{Writing}
-use Rattle.write.specs.declared.Writing.the-variants.{Written, Refused}
-use Rattle.write.specs.Writing.{written, textLength}
+use Rattle.setups.specs.Written.{written}
+use Rattle.write.specs.SetupText.{setupText, textLength}
 
 -- the answer's number, how many places Written has filled (else 0), and the text buffer afterwards
 pub record WriteResult : Type 0 where
   pub number : ℕ
   pub filled : ℕ
   pub text : List ℕ
-
--- the paper's number and values of an answer, with what the text buffer then holds
-abbrev pub answered : Writing → List ℕ → WriteResult
-answered (Written filled) text = record { number = finished; filled = filled; text = text }
-answered (Refused refusal) text = record { number = numberOf refusal; filled = 0; text = text }
 
 -- 1, 2, 4, 5, 6, 7, and then what comes after
 abbrev pub setupRefusal : ℕ → List ℕ → List ℕ → ℕ → ℕ
@@ -39,17 +32,13 @@ unfoldable pub writeResult : ℕ → List ℕ → List ℕ → List ℕ → Writ
 writeResult n hard soft text =
     let refusal = writeRefusal n hard soft (length text) in
     let refused : WriteResult = record { number = refusal; filled = 0; text = text } in
-    let wrote = written n hard soft in
-    let finishes : WriteResult = record { number = finished; filled = textLength hard soft; text = filledWith wrote text } in
+    let wrote = setupText n hard soft in
+    let finishes : WriteResult = record { number = finished; filled = textLength hard soft; text = written wrote text } in
     cond (eqb refusal 0) finishes refused
-
--- Write's promise: the answer, and the text buffer afterwards
-abbrev pub Writes : ℕ → List ℕ → List ℕ → List ℕ → Writing → List ℕ → Type 0
-Writes n hard soft text answer text′ = answered answer text′ ≡ writeResult n hard soft text
 
 -- a setup with no variable and no clause takes eight places, 1000 and FF, and the ninth stays; with seven places it is Room
 example-write :
     (writeResult 0 [] [] (1 ∷ 2 ∷ 3 ∷ 4 ∷ 5 ∷ 6 ∷ 7 ∷ 8 ∷ 9 ∷ []) ≡ record { number = 0; filled = 8; text = 49 ∷ 48 ∷ 48 ∷ 48 ∷ 10 ∷ 70 ∷ 70 ∷ 10 ∷ 9 ∷ [] })
     × (writeResult 0 [] [] (1 ∷ 2 ∷ 3 ∷ 4 ∷ 5 ∷ 6 ∷ 7 ∷ []) ≡ record { number = 12; filled = 0; text = 1 ∷ 2 ∷ 3 ∷ 4 ∷ 5 ∷ 6 ∷ 7 ∷ [] })
-unfolding digitOf written textLength writeResult
+unfolding digitOf setupText textLength writeResult
 example-write = (refl, refl)

@@ -21,10 +21,12 @@ ghost use lib.Seq.{sets};
 ghost use Rattle.setups.specs.Limits.{variablesMost, hardBytesMost, softBytesMost};
 ghost use Rattle.setups.specs.Clauses.{clauses};
 ghost use Rattle.setups.specs.Refusals.{ended};
-ghost use Rattle.setups.specs.Checks.{judgedOf};
+ghost use Rattle.setups.specs.Code.Checks.{judgedOf};
 ghost use Rattle.frames.specs.Frames.{line};
-ghost use Rattle.write.specs.Writing.{clauseLines, written, textLength, clauseAt};
-ghost use Rattle.write.specs.Write.{setupRefusal, Writes};
+ghost use Rattle.write.specs.SetupText.{clauseLines, setupText, textLength};
+ghost use Rattle.write.specs.Code.ClauseAt.{clauseAt};
+ghost use Rattle.write.specs.Write.{setupRefusal};
+ghost use Rattle.write.specs.Writing.{Writes};
 
 // The most variables, in the type that they are counted in.
 const VARIABLES_MOST: u32 = numbers::VARIABLES_MOST as u32;
@@ -73,8 +75,8 @@ fn text_length(hard: &[u8], soft: &[u8]) -> usize
 
 // Writes the header, the hard clauses, the soft clauses and FF.
 fn put_setup(text: &mut [u8], count: u32, hard: &[u8], soft: &[u8])
-    requires { ⌜ (count ≤ variablesMost) × (ended (now hard) ≡ true) × (ended (now soft) ≡ true) × (length (written count (now hard) (now soft)) ≤ length (now text)) ⌝ }
-    ensures { λ _. ⌜ now (text .exit) ≡ sets (now (text .entry)) 0 (written count (now (hard .entry)) (now (soft .entry))) ⌝ }
+    requires { ⌜ (count ≤ variablesMost) × (ended (now hard) ≡ true) × (ended (now soft) ≡ true) × (length (setupText count (now hard) (now soft)) ≤ length (now text)) ⌝ }
+    ensures { λ _. ⌜ now (text .exit) ≡ sets (now (text .entry)) 0 (setupText count (now (hard .entry)) (now (soft .entry))) ⌝ }
 {
     put_byte(text, 0, HEADER);
     put_byte(text, 2, count as u8);

@@ -1,7 +1,7 @@
 -- `ask::ask` meets its contract: the first refusal that is given, or the answer of the search.
 use mathlib.Core.Path.{sym, ap, _∙_}
 use borrow.Author.Needs.{needs}
-use Rattle.ask.specs.Checking.{refusalOf}
+use Rattle.ask.specs.Code.Checking.{refusalOf}
 use Rattle.ask.proofs.Answering.{refused-result, searched-result}
 use Rattle.ask.proofs.ask.Statement.{statement}
 use Rattle.ask.proofs.ask.Tie as tie

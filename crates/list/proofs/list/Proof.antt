@@ -11,7 +11,7 @@ use Rattle.setups.specs.List.{listRefusal}
 use Rattle.setups.specs.declared.judging.Judged.{Judged}
 use Rattle.setups.specs.declared.judging.Judged.the-variants.{Taken, Unfit}
 use Rattle.setups.proofs.JudgeLaws.{list-taken}
-use Rattle.list.specs.Giving.{Checks}
+use Rattle.list.specs.Code.Giving.{Checks}
 use Rattle.list.proofs.Answering.{refused, all-cleared, given-out}
 use Rattle.list.proofs.list.Statement.{statement}
 use Rattle.list.proofs.list.Tie as tie

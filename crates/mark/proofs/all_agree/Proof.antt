@@ -9,7 +9,7 @@ use lib.ListN.{length, getD, drop}
 use Rattle.sets.specs.Sets.{Share, only}
 use Rattle.sets.specs.Tests.{all}
 use Rattle.setups.specs.Limits.{settingsMost}
-use Rattle.mark.specs.Agreeing.{agrees}
+use Rattle.mark.specs.Code.Agreeing.{agrees}
 use Rattle.mark.proofs.Loops.{has-answer, agrees-answer, all-next, all-stop, all-end}
 use Rattle.mark.proofs.all_agree.Statement.{statement}
 use Rattle.mark.proofs.all_agree.Tie as tie

@@ -3,7 +3,7 @@ use mathlib.Core.Path.{_≡_, sym, _∙_}
 use native.Mathlib.Omega.{arith}
 use borrow.Author.Needs.{needs}
 use Rattle.frames.specs.declared.frames.Found.the-variants.{Hard, Soft}
-use Rattle.frames.specs.Found.{foundAt}
+use Rattle.frames.specs.Code.Found.{foundAt}
 use Rattle.read.proofs.Passing.{hard-clause, soft-clause}
 use Rattle.read.proofs.Filling.{hard-room, soft-room}
 use Rattle.read.proofs.pass_frame.Statement.{statement}

@@ -47,7 +47,7 @@ use denote.Triple.Table.{entered, cited}
 use denote.Triple.Walked.{says, Stays, needs, stay-none-slice, stay-none, stay-slice, walkOf, goes-none-slice, goes-none, goes-slice, Walks, ends-at, walked, walk-meets}
 use denote.Exit.{yes}
 use denote.Triple.Clauses.{ensured, lasts}
-use Rattle.frames.specs.Found.{foundAt, nextPlace}
+use Rattle.frames.specs.Code.Found.{foundAt, nextPlace}
 use Rattle.frames.specs.declared.reader.FrameReader.{FrameReader}
 use Rattle.frames.specs.declared.frames.Found.{Found}
 use Rattle.frames.proofs.Lending.{Next, R, reader, Owns, to-next, Asks, lent, Gives, back}
@@ -64,19 +64,20 @@ use Rattle.frames.proofs.reader.FrameReader.next.Symbol.{name as #next}
 use Rattle.frames.proofs.reader.FrameReader.next.Met as next-thm
 use Rattle.read.specs.declared.Checked.{Checked}
 use Rattle.read.specs.declared.Pass.{Pass}
-use Rattle.read.specs.declared.Progress.{Progress}
-use Rattle.read.specs.declared.Progress.the-variants.{Fresh}
+use Rattle.read.specs.declared.Stage.{Stage}
+use Rattle.read.specs.declared.Stage.the-variants.{Fresh}
 use Rattle.read.specs.declared.Advance.{Advance}
 use Rattle.read.specs.declared.Advance.the-variants.{On, Over}
-use Rattle.read.specs.Passes.{advance, grown, literalCount, hardPlace, softPlace, hardBytes, softBytes, copied, Fits, Allowed}
-use Rattle.read.specs.Texts.{judge, hardOf, softOf, checked}
+use Rattle.read.specs.Code.Passes.{advance, grown, literalsFound, hardPlace, softPlace, hardBytes, softBytes, copied, CopyFits, Allowed}
+use Rattle.read.specs.Texts.{judge, hardOf, softOf}
+use Rattle.read.specs.Code.Passes.{checked}
 use Rattle.read.proofs.Passing.{sums-fit}
 use Rattle.read.proofs.Filling.{Stand, lengths, begun, copy-fits, Passed, passed}
 use Rattle.read.proofs.Again.{slice, Slice, Waits, Lent, lends, returns}
 use Rattle.read.proofs.Pass as Ps
 use Rattle.read.proofs.Pass.Laws as Ps′
-use Rattle.read.proofs.Progress as Pr
-use Rattle.read.proofs.Progress.Laws as Pr′
+use Rattle.read.proofs.Stage as Pr
+use Rattle.read.proofs.Stage.Laws as Pr′
 use Rattle.read.proofs.Advance as Ad
 use Rattle.read.proofs.Advance.Laws as Ad′
 use Rattle.read.proofs.Checked as Ck
@@ -114,7 +115,7 @@ module _ {M : Type 1} (𝓤 : URA M) (H : Heap 𝓤) (A : Atoms 𝓤) (mem : Mem
   PassFrame = tripleOf 𝓤 H A pass-frame.signature (pass-frame.spec 𝓤 H A mem run)
 
 -- the machine values of what the pass has come to, and of what it is for
-abbrev coded : Progress → Val
+abbrev coded : Stage → Val
 coded = EL.val Pr.the-type Pr′.the-laws
 
 abbrev kind : Pass → Val
@@ -124,7 +125,7 @@ kind = EL.val Ps.the-type Ps′.the-laws
 record Round (pass : Pass) (t hard₀ soft₀ : List ℕ) : Type 0 where
   stand : Stand pass t hard₀ soft₀
   fits : stand .at < 2 ^ 64
-  good : Is Pr.the-row (stand .progress) (coded (stand .progress) ∷ [])
+  good : Is Pr.the-row (stand .stage) (coded (stand .stage) ∷ [])
 
 abbrev first-round : (pass : Pass) (t hard₀ soft₀ : List ℕ) → Round pass t hard₀ soft₀
 first-round pass t hard₀ soft₀ = record { stand = begun pass t hard₀ soft₀; fits = lit< tt; good = EL.owes Pr.the-type Pr′.the-laws Fresh tt }
@@ -209,18 +210,18 @@ module _ {M : Type 1} (𝓤 : URA M) (H : Heap 𝓤) (A : Atoms 𝓤) (W : Given
   new-said r = exE 𝓤 _ (λ ws. snd∗ 𝓤 (sem 𝓤 H A (lasts new.ended (κ, tt) (s, tt) ws)) (fact 𝓤 ((r .text ≡ s) × (r .at ≡ 0))))
 
   -- ---- the call of `pass_frame` at x, where r was found with the machine value u
-  abbrev frame-args : Stand pass t hard₀ soft₀ → Found → GName → GName → Pass × (Progress × (RefT (List ℕ) × (ℕ × (Found × (RefT (List ℕ) × (RefT (List ℕ) × Unit {0}))))))
-  frame-args x r δ₁ δ₂ = (pass, (x .progress, (s, (x .at, (r, (hard-ref δ₁ (x .hard), (soft-ref δ₂ (x .soft), tt)))))))
+  abbrev frame-args : Stand pass t hard₀ soft₀ → Found → GName → GName → Pass × (Stage × (RefT (List ℕ) × (ℕ × (Found × (RefT (List ℕ) × (RefT (List ℕ) × Unit {0}))))))
+  frame-args x r δ₁ δ₂ = (pass, (x .stage, (s, (x .at, (r, (hard-ref δ₁ (x .hard), (soft-ref δ₂ (x .soft), tt)))))))
 
   abbrev frame-vals : Stand pass t hard₀ soft₀ → Val → List Val × (List Val × (List Val × (List Val × (List Val × (List Val × (List Val × Unit {0}))))))
-  frame-vals x u = (kind pass ∷ [], (coded (x .progress) ∷ [], (v ∷ [], (vint w64 (x .at) ∷ [], (u ∷ [], (hard-val ∷ [], (soft-val ∷ [], tt)))))))
+  frame-vals x u = (kind pass ∷ [], (coded (x .stage) ∷ [], (v ∷ [], (vint w64 (x .at) ∷ [], (u ∷ [], (hard-val ∷ [], (soft-val ∷ [], tt)))))))
 
   abbrev to-frame : Stand pass t hard₀ soft₀ → Found → Val → ℕ → GName → ℕ → GName → PassFrame 𝓤 H A at-mem run .Ghost
   to-frame x r u ν₁ δ₁ ν₂ δ₂ =
       (((κ, (ν₁ ∷ [], (ν₂ ∷ [], tt))), (q, (fullShare, (fullShare, tt))), tt, frame-args x r δ₁ δ₂, frame-vals x u), tt)
 
   goes-frame : (x : Round pass t hard₀ soft₀) (r : Found) (u : Val) (ν₁ : ℕ) (δ₁ : GName) (ν₂ : ℕ) (δ₂ : GName) → Is Ps.the-row pass (kind pass ∷ []) → Is S.the-row r (u ∷ [])
-      → (grown (x .stand .progress) + literalCount r + 1 < 2 ^ 64) × (r ≡ foundAt t (x .stand .at)) × Fits pass (x .stand .progress) t (x .stand .at) r (x .stand .hard) (x .stand .soft)
+      → (grown (x .stand .stage) + literalsFound r + 1 < 2 ^ 64) × (r ≡ foundAt t (x .stand .at)) × CopyFits pass (x .stand .stage) t (x .stand .at) r (x .stand .hard) (x .stand .soft)
       → ent 𝓤 (⋆ 𝓤 H A (SoftsLent (x .stand .soft) ν₂ δ₂ ∷ HardsLent (x .stand .hard) ν₁ δ₁ ∷ (‵ (flft κ q) ⊛ ‵ Own) ∷ []))
       (⋆ 𝓤 H A (raw (PassFrame 𝓤 H A at-mem run .pre (to-frame (x .stand) r u ν₁ δ₁ ν₂ δ₂)) ∷ ‵ Own ∷ ‵ (HardsWait ν₁ δ₁ (x .stand .hard)) ∷ ‵ (SoftsWait ν₂ δ₂ (x .stand .soft)) ∷ []))
   goes-frame x r u ν₁ δ₁ ν₂ δ₂ isP isR ok =
@@ -230,7 +231,7 @@ module _ {M : Type 1} (𝓤 : URA M) (H : Heap 𝓤) (A : Atoms 𝓤) (W : Given
       -- [the text; the text; κ's token; ν₁'s token; what waits of the hard buffer; the hard buffer; ν₂'s token; what waits of the soft buffer; the soft buffer]
       nothing ! $ move ! (7 ∷ 0 ∷ []) $ join ! $ move ! (4 ∷ 0 ∷ []) $ join ! $ move ! (3 ∷ 0 ∷ []) $ join ! $
       nothing ! $ move ! (7 ∷ 0 ∷ []) $ fjoin ! $ move ! (5 ∷ 0 ∷ []) $ fjoin ! $ owned ! S.the-row (Is S.the-row) (EL.makes S.the-type S′.the-plain 𝓤 H A) r _ isR $ fjoin ! $ owned ! usize (Is usize) (uint-makes 𝓤 H A W w64) (x .stand .at) _ (refl, x .fits) $ fjoin ! $
-      move ! (2 ∷ 0 ∷ []) $ fjoin ! $ owned ! Pr.the-row (Is Pr.the-row) (EL.makes Pr.the-type Pr′.the-plain 𝓤 H A) (x .stand .progress) _ (x .good) $ fjoin ! $ owned ! Ps.the-row (Is Ps.the-row) (EL.makes Ps.the-type Ps′.the-plain 𝓤 H A) pass _ isP $ fjoin ! $
+      move ! (2 ∷ 0 ∷ []) $ fjoin ! $ owned ! Pr.the-row (Is Pr.the-row) (EL.makes Pr.the-type Pr′.the-plain 𝓤 H A) (x .stand .stage) _ (x .good) $ fjoin ! $ owned ! Ps.the-row (Is Ps.the-row) (EL.makes Ps.the-type Ps′.the-plain 𝓤 H A) pass _ isP $ fjoin ! $
       move ! (1 ∷ 0 ∷ []) $ use2 W (raw (PassFrame 𝓤 H A at-mem run .pre (to-frame (x .stand) r u ν₁ δ₁ ν₂ δ₂))) asked $ done !
     where
       asked : ent 𝓤 (onEntry 𝓤 H A pass-frame.signature (κ, (ν₁ ∷ [], (ν₂ ∷ [], tt))) (q, (fullShare, (fullShare, tt))) (frame-args (x .stand) r δ₁ δ₂) (frame-vals (x .stand) u))
@@ -239,7 +240,7 @@ module _ {M : Type 1} (𝓤 : URA M) (H : Heap 𝓤) (A : Atoms 𝓤) (W : Given
 
   -- what it says: its answer, and the last bytes of both buffers
   abbrev Said : Stand pass t hard₀ soft₀ → Found → Advance → List ℕ → List ℕ → Type 0
-  Said x r o hard soft = (o ≡ advance (x .progress) r (length t)) × (hard ≡ sets (x .hard) (hardPlace (x .progress)) (copied pass (hardBytes t (x .at) r))) × (soft ≡ sets (x .soft) (softPlace (x .progress)) (copied pass (softBytes t (x .at) r)))
+  Said x r o hard soft = (o ≡ advance (x .stage) r (length t)) × (hard ≡ sets (x .hard) (hardPlace (x .stage)) (copied pass (hardBytes t (x .at) r))) × (soft ≡ sets (x .soft) (softPlace (x .stage)) (copied pass (softBytes t (x .at) r)))
 
   abbrev Lasts : Type 0
   Lasts = Unit {0} × (Unit {0} × (Unit {0} × (Unit {0} × (Unit {0} × (List ℕ × (List ℕ × Unit {0}))))))
@@ -263,8 +264,8 @@ module _ {M : Type 1} (𝓤 : URA M) (H : Heap 𝓤) (A : Atoms 𝓤) (W : Given
   Nearer-wf : WellFounded Nearer
   Nearer-wf = InvImage·wf (λ (x : Rounds). length t - x .stand .at) (Nat·lt-wfRel .wf)
 
-  typed-progress : (a : Progress) → Is Pr.the-row a (coded a ∷ []) → Holds (hasTy Pr′.mir (coded a)) × WT (coded a)
-  typed-progress a g = EL.lawful Pr.the-type Pr′.the-laws 𝓤 H A W tt .typed a _ g .0
+  typed-stage : (a : Stage) → Is Pr.the-row a (coded a ∷ []) → Holds (hasTy Pr′.mir (coded a)) × WT (coded a)
+  typed-stage a g = EL.lawful Pr.the-type Pr′.the-laws 𝓤 H A W tt .typed a _ g .0
 
   typed-checked : (c : Checked) (u : Val) → Is Ck.the-row c (u ∷ []) → Holds (hasTy Ck′.mir u) × WT u
   typed-checked c u g = EL.lawful Ck.the-type Ck′.the-laws 𝓤 H A W tt .typed c _ g .0
@@ -305,7 +306,7 @@ module _ {M : Type 1} (𝓤 : URA M) (H : Heap 𝓤) (A : Atoms 𝓤) (W : Given
     En = (Ck′.mir, l₀) ∷ (text-ty, l₁) ∷ (Ps′.mir, l₂) ∷ (hard-ty, l₃) ∷ (soft-ty, l₄) ∷ (struct, l₅) ∷ (Pr′.mir, l₆) ∷ (word, l₇) ∷ (Pr′.mir, l₈) ∷ (Ck′.mir, l₉) ∷ (struct, l₁₀) ∷ (Ad′.mir, l₁₁) ∷ (S′.mir, l₁₂) ∷ (borrow, l₁₃) ∷ (byte-ref, l₁₄) ∷ (lent-ty, l₁₅) ∷ (byte-ref, l₁₆) ∷ (lent-ty, l₁₇) ∷ []
 
     -- what is had, with b for _11, of a reader at n, what the pass has come to and the buffers' bytes
-    abbrev Had : Fml → ℕ → Progress → List ℕ → List ℕ → List (Item 𝓤)
+    abbrev Had : Fml → ℕ → Stage → List ℕ → List ℕ → List (Item 𝓤)
     Had b n a hard soft = ‵ Own ∷ ‵ (flft κ q) ∷ ‵ (Owns κ s n) ∷ ‵ (Hards κ₁ γ₁ hard) ∷ ‵ (flft κ₁ q₁) ∷ ‵ (Softs κ₂ γ₂ soft) ∷ ‵ (flft κ₂ q₂)
         ∷ ‵ (froom lent-ty l₁₇ 0) ∷ ‵ (fdies lent-ty l₁₇) ∷ ‵ (froom byte-ref l₁₆ 0) ∷ ‵ (fdies byte-ref l₁₆) ∷ ‵ (froom lent-ty l₁₅ 0) ∷ ‵ (fdies lent-ty l₁₅) ∷ ‵ (froom byte-ref l₁₄ 0) ∷ ‵ (fdies byte-ref l₁₄)
         ∷ ‵ (froom borrow l₁₃ 0) ∷ ‵ (fdies borrow l₁₃) ∷ ‵ (froom S′.mir l₁₂ 0) ∷ ‵ (fdies S′.mir l₁₂) ∷ ‵ b ∷ ‵ (fdies Ad′.mir l₁₁) ∷ ‵ (froom struct l₁₀ 0) ∷ ‵ (fdies struct l₁₀)
@@ -314,10 +315,10 @@ module _ {M : Type 1} (𝓤 : URA M) (H : Heap 𝓤) (A : Atoms 𝓤) (W : Given
         ∷ ‵ (fat fullShare hard-ty l₃ 0 hard-val) ∷ ‵ (fdies hard-ty l₃) ∷ ‵ (fat fullShare Ps′.mir l₂ 0 (kind pass)) ∷ ‵ (fdies Ps′.mir l₂) ∷ ‵ (fat fullShare text-ty l₁ 0 v) ∷ ‵ (fdies text-ty l₁) ∷ ‵ (froom Ck′.mir l₀ 0) ∷ ‵ (fdies Ck′.mir l₀) ∷ []
 
     abbrev At : Rounds → List (Item 𝓤)
-    At x = Had (froom Ad′.mir l₁₁ 0) (x .stand .at) (x .stand .progress) (x .stand .hard) (x .stand .soft)
+    At x = Had (froom Ad′.mir l₁₁ 0) (x .stand .at) (x .stand .stage) (x .stand .hard) (x .stand .soft)
 
     abbrev Mid : Rounds → Found → Advance → List ℕ → List ℕ → List (Item 𝓤)
-    Mid x r o = Had (fat fullShare Ad′.mir l₁₁ 0 (EL.val Ad.the-type Ad′.the-laws o)) (nextPlace (x .stand .at) r) (x .stand .progress)
+    Mid x r o = Had (fat fullShare Ad′.mir l₁₁ 0 (EL.val Ad.the-type Ad′.the-laws o)) (nextPlace (x .stand .at) r) (x .stand .stage)
 
     abbrev Ended : Rounds → Out → SProp 𝓤
     Ended x = afterTurn 𝓤 H (Below 𝓤 H A Nearer At x) (afterBlock 𝓤 H (afterSeq 𝓤 H (Wp 𝓤 H C Λ En mir′.t-5 (atReturn 𝓤 H En Post)) (atReturn 𝓤 H En Post)))
@@ -326,10 +327,10 @@ module _ {M : Type 1} (𝓤 : URA M) (H : Heap 𝓤) (A : Atoms 𝓤) (W : Given
     unfolding afterTurn
     matched x r (On a) hard soft small led is =
         switches-on ! (load ! (from ! (vrt ! refl (fld ! refl (stop !)))) (look-tag ! 19 (whole !))) $ exec ! C Λ En more (anyQ (Ended x)) $
-        assigns ! (of-opd ! (load ! (from ! (vrt ! refl (fld ! refl (stop !)))) (look-in ! 19 (in-variant ! 0 0 refl refl (whole !))))) (from ! (stop !)) (init ! 25 refl (typed-progress a good)) $
-        assigns-last ! (of-opd ! (load ! (from ! (stop !)) (look ! 25 refl))) (from ! (stop !)) (store ! 29 refl (typed-progress a good)) $
+        assigns ! (of-opd ! (load ! (from ! (vrt ! refl (fld ! refl (stop !)))) (look-in ! 19 (in-variant ! 0 0 refl refl (whole !))))) (from ! (stop !)) (init ! 25 refl (typed-stage a good)) $
+        assigns-last ! (of-opd ! (load ! (from ! (stop !)) (look ! 25 refl))) (from ! (stop !)) (store ! 29 refl (typed-stage a good)) $
         forget ! 19 refl $ forget ! 25 refl $
-        again ! Nearer At x (record { stand = record { at = nextPlace (x .stand .at) r; progress = a; reached = led .0; hard = hard; soft = soft; hard-has = led .2; soft-has = led .3 }; fits = small; good = good }) (led .1)
+        again ! Nearer At x (record { stand = record { at = nextPlace (x .stand .at) r; stage = a; reached = led .0; hard = hard; soft = soft; hard-has = led .2; soft-has = led .3 }; fits = small; good = good }) (led .1)
       where
         good : Is Pr.the-row a (coded a ∷ [])
         good = EL.owed Ad.the-type Ad′.the-laws (On a) _ is .0
@@ -368,7 +369,7 @@ module _ {M : Type 1} (𝓤 : URA M) (H : Heap 𝓤) (A : Atoms 𝓤) (W : Given
         (lends κ₂ q₂ γ₂ b₂ o₂ (length soft₀) 𝓤 H A W (named 2) (x .stand .soft)) $ await ! tt $ pick ! (λ ν₂. pick ! (λ δ₂.
         -- [the soft buffer, lent; the hard buffer, lent; what the reader owns; its cell; κ's token; what was found; the text; _17; …]
         move ! (4 ∷ 6 ∷ []) $ join ! $ move ! (1 ∷ 2 ∷ 0 ∷ []) $ use3 W (raw (PassFrame 𝓤 H A at-mem run .pre (to-frame (x .stand) r u ν₁ δ₁ ν₂ δ₂)) ⊛ (‵ Own ⊛ (‵ (HardsWait ν₁ δ₁ (x .stand .hard)) ⊛ ‵ (SoftsWait ν₂ δ₂ (x .stand .soft)))))
-        (goes-frame x r u ν₁ δ₁ ν₂ δ₂ isP is (sums-fit t (x .stand .at) (x .stand .progress) r (x .stand .reached) e (place-fits r g), e, copy-fits pass t hard₀ soft₀ allowed (x .stand) r e)) $ split ! $
+        (goes-frame x r u ν₁ δ₁ ν₂ δ₂ isP is (sums-fit t (x .stand .at) (x .stand .stage) r (x .stand .reached) e (place-fits r g), e, copy-fits pass t hard₀ soft₀ allowed (x .stand) r e)) $ split ! $
         -- [what `pass_frame` asks; what is kept; what the reader owns; its cell; what was found; _17; …; _16; …; …]
         calls-at ! fm (PassFrame 𝓤 H A at-mem run) known-frame (to-frame (x .stand) r u ν₁ δ₁ ν₂ δ₂) (and-then ! (load ! (from ! (stop !)) (look ! 34 refl)) (and-then ! (load ! (from ! (stop !)) (look ! 27 refl)) (and-then ! (load ! (from ! (stop !)) (look ! 36 refl))
         (and-then ! (load ! (from ! (stop !)) (look ! 25 refl)) (and-then ! (load ! (from ! (stop !)) (look ! 15 refl)) (and-then ! (load ! (from ! (stop !)) (look ! 9 refl)) (and-then ! (load ! (from ! (stop !)) (look ! 5 refl)) (no-more !)))))))) (λ w.
@@ -410,7 +411,7 @@ module _ {M : Type 1} (𝓤 : URA M) (H : Heap 𝓤) (A : Atoms 𝓤) (W : Given
       land ! (from ! (stop !)) (init ! 17 refl (LL.lawful (T.the-type αᵉ) (T′.the-laws αᵉ) 𝓤 H A W .typed (reader s 0) _ is .0)) $ rewrite ! 17 (λ (w : Val). ‵ (fat fullShare (T′.mir erased) l₁₀ 0 w)) (ap only (LL.tells (T.the-type αⁿ) (T′.the-laws αⁿ) (reader s 0) _ is)) refl $
       peeks ! (R κ) (Is (R κ)) (shows 𝓤 H A (R κ)) (reader s 0) (mach 0 ∷ []) (λ is′.
       assigns ! (of-opd ! (load ! (from ! (stop !)) (look ! 17 refl))) (from ! (stop !)) (init ! 27 refl (LL.lawful (T.the-type αᵉ) (T′.the-laws αᵉ) 𝓤 H A W .typed (reader s 0) _ is′ .0)) $
-      assigns ! (agg ! (and-then ! (lit ! tt) (no-more !))) (from ! (stop !)) (init ! 25 refl (typed-progress Fresh (first-round pass t hard₀ soft₀ .good))) $ forget ! 17 refl $
+      assigns ! (agg ! (and-then ! (lit ! tt) (no-more !))) (from ! (stop !)) (init ! 25 refl (typed-stage Fresh (first-round pass t hard₀ soft₀ .good))) $ forget ! 17 refl $
       move ! (1 ∷ []) $ split ! $ move ! (3 ∷ []) $ split ! $ move ! (1 ∷ []) $ split ! $ move ! (1 ∷ []) $ split ! $ move ! (1 ∷ []) $ split ! $
       -- [the soft buffer; κ₂'s token; κ₁'s token; the hard buffer; the text; κ's token; true; what the reader owns; _17; …]
       keep ! (4 ∷ 5 ∷ 7 ∷ 3 ∷ 2 ∷ 0 ∷ 1 ∷ 8 ∷ 9 ∷ 10 ∷ 11 ∷ 12 ∷ 13 ∷ 14 ∷ 15 ∷ 16 ∷ 17 ∷ 18 ∷ 19 ∷ 20 ∷ 21 ∷ 22 ∷ 23 ∷ 24 ∷ 25 ∷ 26 ∷ 27 ∷ 28 ∷ 29 ∷ 30 ∷ 31 ∷ 32 ∷ 33 ∷ 34 ∷ 35 ∷ 36 ∷ 37 ∷ 38 ∷ 39 ∷ 40 ∷ 41 ∷ 42 ∷ 43 ∷ []) $

@@ -5,8 +5,8 @@ use native.Mathlib.Omega.{arith}
 use borrow.Author.Needs.{needs}
 use lib.ListN.{length}
 use Rattle.setups.specs.Limits.{settingsMost}
-use Rattle.turn.specs.Branches.{Branch}
-use Rattle.turn.specs.Growing.{Grown}
+use Rattle.turn.specs.Code.Branches.{Branch}
+use Rattle.turn.specs.Code.Growing.{Grown}
 use Rattle.turn.proofs.Ends.{gives-list, gives-too-many}
 use Rattle.turn.proofs.give_out.Statement.{statement}
 use Rattle.turn.proofs.give_out.Tie as tie

@@ -6,7 +6,7 @@ use native.Mathlib.Omega.{arith}
 use lib.ListN.{length, getD, drop, length-set}
 use lib.Seq.{sets}
 use Rattle.frames.specs.Frames.{line}
-use Rattle.write.specs.Writing.{firstClause}
+use Rattle.write.specs.Code.ClauseAt.{firstClause}
 use Rattle.write.proofs.ClauseLines.{no-literal, a-literal, literal-stored, kind-stored, feed-stored}
 use Rattle.write.proofs.put_clause.Statement.{statement}
 use Rattle.write.proofs.put_clause.Tie as tie

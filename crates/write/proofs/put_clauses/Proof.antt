@@ -6,7 +6,8 @@ use native.Mathlib.Omega.{arith}
 use lib.ListN.{length, drop}
 use lib.Seq.{sets}
 use Rattle.setups.specs.Clauses.{clauses}
-use Rattle.write.specs.Writing.{clauseLines, firstClause}
+use Rattle.write.specs.SetupText.{clauseLines}
+use Rattle.write.specs.Code.ClauseAt.{firstClause}
 use Rattle.write.proofs.ClauseLines.{clause-inside, clause-takes, clause-stored, no-clause}
 use Rattle.write.proofs.put_clauses.Statement.{statement}
 use Rattle.write.proofs.put_clauses.Tie as tie

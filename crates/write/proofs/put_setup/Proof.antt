@@ -5,7 +5,7 @@ use native.Mathlib.Omega.{arith}
 use lib.ListN.{length, length-set}
 use Rattle.setups.specs.Clauses.{clauses}
 use Rattle.frames.specs.Frames.{lineFeed, hardKind, softKind}
-use Rattle.write.specs.Writing.{clauseLines}
+use Rattle.write.specs.SetupText.{clauseLines}
 use Rattle.write.proofs.ClauseLines.{written-length, setup-stored}
 use Rattle.write.proofs.put_setup.Statement.{statement}
 use Rattle.write.proofs.put_setup.Tie as tie

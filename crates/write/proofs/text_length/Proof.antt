@@ -5,7 +5,7 @@ use native.Mathlib.Omega.{arith}
 use borrow.Author.Needs.{needs}
 use lib.ListN.{length}
 use Rattle.setups.specs.Clauses.{clauses}
-use Rattle.write.specs.Writing.{literalCount, textLength}
+use Rattle.write.specs.SetupText.{literalCount, textLength}
 use Rattle.write.proofs.ClauseLines.{literals-and-ends}
 use Rattle.write.proofs.text_length.Statement.{statement}
 use Rattle.write.proofs.text_length.Tie as tie

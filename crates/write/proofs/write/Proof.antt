@@ -4,7 +4,7 @@ use Prim.Native.Nat.{ℕ}
 use native.Mathlib.Omega.{arith}
 use borrow.Author.Needs.{needs}
 use Rattle.setups.specs.declared.judging.Judged.{Judged}
-use Rattle.setups.specs.Checks.{judgedOf}
+use Rattle.setups.specs.Code.Checks.{judgedOf}
 use Rattle.write.specs.Write.{setupRefusal}
 use Rattle.write.proofs.ClauseLines.{measured}
 use Rattle.write.proofs.Refusing.{Fine, fine, unfit, no-room, wrote}

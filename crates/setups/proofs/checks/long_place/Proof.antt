@@ -4,7 +4,7 @@ use mathlib.Core.Logic.{⊎-elim}
 use Prim.Native.Nat.{_-_}
 use native.Mathlib.Omega.{arith}
 use lib.ListN.{length}
-use Rattle.setups.specs.Checks.{longPlace}
+use Rattle.setups.specs.Code.Checks.{longPlace}
 use Rattle.setups.proofs.CheckLaws.{Walked, walk-starts, walk-counts, walk-stops, walk-ends, long-end, long-literal, long-stops}
 use Rattle.setups.proofs.checks.long_place.Statement.{statement}
 use Rattle.setups.proofs.checks.long_place.Tie as tie

@@ -5,7 +5,7 @@ use Prim.Native.Nat.{_-_}
 use native.Mathlib.Omega.{arith}
 use lib.ListN.{length}
 use Rattle.setups.specs.Limits.{settingsMost}
-use Rattle.setups.specs.Checks.{settingPlace}
+use Rattle.setups.specs.Code.Checks.{settingPlace}
 use Rattle.setups.proofs.CheckLaws.{Walked, walk-starts, walk-counts, walk-stops, walk-ends, setting-literal, setting-end, setting-stops}
 use Rattle.setups.proofs.checks.softs_place.Statement.{statement}
 use Rattle.setups.proofs.checks.softs_place.Tie as tie

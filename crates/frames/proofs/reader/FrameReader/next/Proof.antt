@@ -46,7 +46,7 @@ use denote.Triple.Spec.{Meets, tripleOf}
 use denote.Triple.Table.{entered, cited}
 use denote.Triple.Walked.{says, Stays, stay-ref, walkOf, goes-ref, Walks, ends-at, walked, walk-meets}
 use denote.Triple.Clauses.{ensured, lasts}
-use Rattle.frames.specs.Found.{foundAt, nextPlace}
+use Rattle.frames.specs.Code.Found.{foundAt, nextPlace}
 use Rattle.frames.specs.declared.reader.FrameReader.{FrameReader}
 use Rattle.frames.specs.declared.frames.Found.{Found}
 use Rattle.frames.proofs.reader.FrameReader as T

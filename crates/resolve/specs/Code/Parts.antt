@@ -3,7 +3,7 @@ use mathlib.Core.Path.{_≡_}
 use mathlib.Core.List.{List}
 use Prim.Native.Nat.{ℕ}
 use Rattle.setups.specs.Limits.{setsMost}
-use Rattle.setups.specs.List.{ListResult}
+use Rattle.setups.specs.GivenOut.{ListResult}
 use Rattle.setups.specs.Turn.{TurnGives}
 use Rattle.resolve.specs.Resolve.{places, turnedLines}
 

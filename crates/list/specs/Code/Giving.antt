@@ -8,10 +8,10 @@ use lib.Dec.{T}
 use Rattle.sets.specs.Lists.{Exactly}
 use Rattle.setups.specs.Setups.{Setup, count, Together, WayOut}
 use Rattle.setups.specs.Refusals.{numberOf, unmet}
-use Rattle.setups.specs.Taken.{Taken}
+use Rattle.setups.specs.Code.Taken.{Taken}
 use Rattle.setups.specs.declared.judging.Judged.{Judged}
 use Rattle.setups.specs.declared.judging.Judged.the-variants.{Taken as Passed, Unfit}
-use Rattle.setups.specs.List.{without-list, zeroed, givenOut}
+use Rattle.setups.specs.GivenOut.{without-list, zeroed, givenOut}
 use Rattle.walk.specs.Walking.{over}
 use Rattle.list.specs.declared.Listing.{Listing}
 use Rattle.list.specs.Listing.{answered}

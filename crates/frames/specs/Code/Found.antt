@@ -48,3 +48,7 @@ nextPlace at (Hard literals next) = next
 nextPlace at (Soft literals next) = next
 nextPlace at (End next) = next
 nextPlace at NoFrame = at
+
+-- after 2081 and LF, found at 5, the next line begins at 10
+example-next : (nextPlace 5 (Hard 1 10) ≡ 10) × (nextPlace 5 NoFrame ≡ 5)
+example-next = (refl, refl)

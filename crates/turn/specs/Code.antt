@@ -1,0 +1,4 @@
+-- What describes the code: the contracts of functions inside cite it, and nobody has to believe it.
+pub mod Giving
+pub mod Branches
+pub mod Growing
