@@ -56,9 +56,9 @@ pub record Forcing (owed : Owed) (bytes : List ℕ) (earlier forced : Progress) 
   pub rest : (m : List ℕ) → AllSet m → Owing owed (isTrue m) bytes → AgreesWith (earlier .values) m
       → (t : Bool) × Sees m seen t × OwedFrom owed n (verdicts (isTrue m) t (clauses (drop i bytes)))
 
-pub forcing-starts : (owed : Owed) (bytes : List ℕ) (earlier : Progress) (n : ℕ) → earlier .fails ≡ false → n ≡ 0
+pub forcing-starts : {owed : Owed} {bytes : List ℕ} {earlier : Progress} {n : ℕ} → earlier .fails ≡ false → n ≡ 0
     → Forcing owed bytes earlier earlier AllFalse n 0
-forcing-starts owed bytes earlier n fine e = rw e (record {
+forcing-starts {owed} {bytes} fine e = rw e (record {
   upto = zero-le;
   fine = fine;
   fresh = tt;
@@ -73,13 +73,13 @@ forcing-starts owed bytes earlier n fine e = rw e (record {
         (owing j (subst (λ (x : ℕ). j < x) (verdicts-length (isTrue m) false (clauses bytes)) l)
         (subst (λ (x : ℕ). Owes owed (min x settingsMost)) (zero-add j) o))
 
-module _ (owed : Owed) (bytes : List ℕ) (earlier forced : Progress) (seen : Seen) (n i : ℕ)
+module _ {owed : Owed} {bytes : List ℕ} {earlier forced : Progress} {seen : Seen} {n i : ℕ}
     (at : Forcing owed bytes earlier forced seen n i) (l : i < length bytes) where
   -- one literal more
-  pub forcing-reads : getD bytes i 0 ≢ 0 → (p : ℕ) → p ≡ slot (getD bytes i 0) → (seen′ : Seen)
+  pub forcing-reads : getD bytes i 0 ≢ 0 → {p : ℕ} → p ≡ slot (getD bytes i 0) → {seen′ : Seen}
       → seen′ ≡ seeValue seen (getD bytes i 0) (getD (forced .values) p 0)
       → Forcing owed bytes earlier forced seen′ n (i + 1)
-  forcing-reads z p s seen′ e = rw (e, s) (record {
+  forcing-reads z s e = rw (e, s) (record {
     upto = omega arith;
     fine = at .fine;
     fresh = fresh-more (forced .values) seen (getD bytes i 0) (at .fresh);
@@ -93,7 +93,7 @@ module _ (owed : Owed) (bytes : List ℕ) (earlier forced : Progress) (seen : Se
         );
   })
 
-  module _ (z : getD bytes i 0 ≡ 0) (due : Bool) (is : (due ≡ true) ↔ Owes owed n) (after : Progress)
+  module _ (z : getD bytes i 0 ≡ 0) {due : Bool} (is : (due ≡ true) ↔ Owes owed n) {after : Progress}
       (end : KeepsAnswers (λ m. T due → EndsTrue m seen) forced after) where
     -- what is said of an answer where the clause ends
     at-end : (m : List ℕ) → AllSet m → Owing owed (isTrue m) bytes → AgreesWith (earlier .values) m
@@ -107,8 +107,8 @@ module _ (owed : Owed) (bytes : List ℕ) (earlier forced : Progress) (seen : Se
     forcing-on = answers-then (at .step) end (λ m d owing agrees. at-end m d owing agrees .0)
 
     -- the next clause begins
-    pub forcing-ends : after .fails ≡ false → (n′ : ℕ) → n′ ≡ nextSelector n → Forcing owed bytes earlier after AllFalse n′ (i + 1)
-    forcing-ends fine n′ e = rw e (record {
+    pub forcing-ends : after .fails ≡ false → {n′ : ℕ} → n′ ≡ nextSelector n → Forcing owed bytes earlier after AllFalse n′ (i + 1)
+    forcing-ends fine e = rw e (record {
       upto = omega arith;
       fine = fine;
       fresh = tt;
@@ -134,9 +134,9 @@ pub record Giving (given : ℕ) (soft : List ℕ) (earlier forced : Progress) (n
   pub rest : (m : List ℕ) → AllSet m → AllBroken given (isTrue m) soft → AgreesWith (earlier .values) m
       → (t : Bool) × BrokenFrom given n (verdicts (isTrue m) t (clauses (drop i soft)))
 
-pub giving-starts : (given : ℕ) (soft : List ℕ) (earlier : Progress) (n : ℕ) → earlier .fails ≡ false → n ≡ 0
+pub giving-starts : {given : ℕ} {soft : List ℕ} {earlier : Progress} {n : ℕ} → earlier .fails ≡ false → n ≡ 0
     → Giving given soft earlier earlier n 0
-giving-starts given soft earlier n fine e = rw e (record {
+giving-starts {soft = soft} fine e = rw e (record {
   along = along-starts soft 0 refl;
   fine = fine;
   step = answers-still fine;
@@ -148,12 +148,11 @@ giving-starts given soft earlier n fine e = rw e (record {
   );
 })
 
-module _ (given : ℕ) (soft : List ℕ) (earlier forced : Progress) (n i : ℕ) (at : Giving given soft earlier forced n i)
-    (l : i < length soft) where
+module _ {given : ℕ} {soft : List ℕ} {earlier forced : Progress} {n i : ℕ} (at : Giving given soft earlier forced n i) (l : i < length soft) where
   -- the setting at hand ends
-  pub giving-ends : getD soft i 0 ≡ 0 → (n′ : ℕ) → n′ ≡ nextSelector n → Giving given soft earlier forced n′ (i + 1)
-  giving-ends z n′ e = record {
-    along = along-ends soft n i (at .along) l z n′ e;
+  pub giving-ends : getD soft i 0 ≡ 0 → {n′ : ℕ} → n′ ≡ nextSelector n → Giving given soft earlier forced n′ (i + 1)
+  giving-ends z {n′} e = record {
+    along = along-ends (at .along) l z e;
     fine = at .fine;
     step = at .step;
     rest = λ m d broken agrees.
@@ -172,13 +171,13 @@ module _ (given : ℕ) (soft : List ℕ) (earlier forced : Progress) (n i : ℕ)
 
     pub giving-reads : Giving given soft earlier forced n (i + 1)
     giving-reads = record {
-      along = along-reads soft n i (at .along) l z;
+      along = along-reads (at .along) l z;
       fine = at .fine;
       step = at .step;
       rest = λ m d broken agrees. let r = past m d broken agrees in (r .0 || isTrue m (getD soft i 0), r .1);
     }
 
-    module _ (small : given < 2 ^ settingsMost) (below : given < 2 ^ length (settings soft)) (h : In n given) (after : Progress)
+    module _ (small : given < 2 ^ settingsMost) (below : given < 2 ^ length (settings soft)) (h : In n given) {after : Progress}
         (denies : KeepsAnswers (λ m. isTrue m (getD soft i 0) ≡ false) forced after) where
       -- a literal of a given-up setting is false in each answer
       pub giving-denies : KeepsAnswers (λ m. AllBroken given (isTrue m) soft) earlier after
@@ -187,7 +186,7 @@ module _ (given : ℕ) (soft : List ℕ) (earlier forced : Progress) (n i : ℕ)
           let r = past m d broken agrees in
           or-none (r .0) (isTrue m (getD soft i 0))
           (first-fails (isTrue m) (r .0 || isTrue m (getD soft i 0)) (clauses (drop (i + 1) soft))
-          (along-inside soft n i (at .along) l z (in-below settingsMost small h) (in-below (length (settings soft)) below h))
+          (along-inside (at .along) l z (in-below settingsMost small h) (in-below (length (settings soft)) below h))
           (r .1 0 (omega (arith, in-below settingsMost small h)) (subst (λ (x : ℕ). In x given) (let s : n ≡ n + 0 = omega arith in s) h))))
 
       pub giving-on : after .fails ≡ false → Giving given soft earlier after n (i + 1)

@@ -57,13 +57,13 @@ pub record Along (soft : List ℕ) (n i : ℕ) : Type 0 where
 pub along-starts : (soft : List ℕ) (n : ℕ) → n ≡ 0 → Along soft n 0
 along-starts soft n e = record { upto = zero-le; sums = omega (arith, settings-length soft) }
 
-module _ (soft : List ℕ) (n i : ℕ) (at : Along soft n i) (l : i < length soft) where
+module _ {soft : List ℕ} {n i : ℕ} (at : Along soft n i) (l : i < length soft) where
   -- the clauses from the byte at i on
   here : length (clauses (drop i soft)) ≡ length (clauses (getD soft i 0 ∷ drop (i + 1) soft))
   here = rw (front soft i l)
 
-  pub along-ends : getD soft i 0 ≡ 0 → (n′ : ℕ) → n′ ≡ nextSelector n → Along soft n′ (i + 1)
-  along-ends z n′ e = record {
+  pub along-ends : getD soft i 0 ≡ 0 → {n′ : ℕ} → n′ ≡ nextSelector n → Along soft n′ (i + 1)
+  along-ends z e = record {
     upto = omega arith;
     sums = omega (arith, at .sums, here, clauses-end (getD soft i 0) z (drop (i + 1) soft));
   }

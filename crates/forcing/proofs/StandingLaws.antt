@@ -34,24 +34,24 @@ pub record Meeting (values hard : List ℕ) (chance : Chance) (i : ℕ) : Type 0
   pub upto : i ≤ length hard
   pub gives : allOf (verdicts (isTrue values) (chance .sure) (clauses (drop i hard))) ≡ allPass (isTrue values) (clauses hard)
 
-pub meeting-starts : (values hard : List ℕ) (chance : Chance) → chance ≡ nothingRead → Meeting values hard chance 0
-meeting-starts values hard chance e = rw e (record { upto = zero-le; gives = verdict-all (isTrue values) (clauses hard) })
+pub meeting-starts : {values hard : List ℕ} {chance : Chance} → chance ≡ nothingRead → Meeting values hard chance 0
+meeting-starts {values} {hard} e = rw e (record { upto = zero-le; gives = verdict-all (isTrue values) (clauses hard) })
 
-module _ (values hard : List ℕ) (chance : Chance) (i : ℕ) (at : Meeting values hard chance i) where
+module _ {values hard : List ℕ} {chance : Chance} {i : ℕ} (at : Meeting values hard chance i) where
   module _ (l : i < length hard) (z : getD hard i 0 ≡ 0) where
     -- the clause at hand ends
     ends : (chance .sure && allOf (verdicts (isTrue values) false (clauses (drop (i + 1) hard)))) ≡ allPass (isTrue values) (clauses hard)
     ends = ap allOf (sym (verdicts-end (isTrue values) (chance .sure) hard i l z)) ∙ at .gives
 
-    pub meeting-ends : chance .sure ≡ true → (next : Chance) → next ≡ nothingRead → Meeting values hard next (i + 1)
-    meeting-ends t next e = rw e (record { upto = omega arith; gives = rw t at ends })
+    pub meeting-ends : chance .sure ≡ true → {next : Chance} → next ≡ nothingRead → Meeting values hard next (i + 1)
+    meeting-ends t e = rw e (record { upto = omega arith; gives = rw t at ends })
 
     pub meeting-fails : chance .sure ≡ false → false ≡ allPass (isTrue values) (clauses hard)
     meeting-fails f = rw f at ends
 
-  pub meeting-reads : i < length hard → getD hard i 0 ≢ 0 → (p : ℕ) → p ≡ slot (getD hard i 0)
-      → (next : Chance) → next ≡ looked chance (getD hard i 0) (getD values p 0) → Meeting values hard next (i + 1)
-  meeting-reads l n p s next e =
+  pub meeting-reads : i < length hard → getD hard i 0 ≢ 0 → {p : ℕ} → p ≡ slot (getD hard i 0)
+      → {next : Chance} → next ≡ looked chance (getD hard i 0) (getD values p 0) → Meeting values hard next (i + 1)
+  meeting-reads l n s e =
       rw (e, s) (record {
         upto = omega arith;
         gives = ap allOf (sym (verdicts-literal (isTrue values) (chance .sure) hard i l n)) ∙ at .gives;

@@ -38,36 +38,35 @@ fn or_later(choice: Choice, later: Choice) -> Choice {
 fn pick(values: Values, owed: Owed, clauses: &[u8]) -> Choice {
     let mut untouched = Choice::NothingToTry;
     let mut selector = FIRST_SELECTOR;
-    // Of the clause so far: whether it has to be true and has no true literal, whether it has a false one, and a free literal of it.
-    let mut unmet = owes(owed, selector);
+    // Of the clause so far: whether it has to be true and has no true literal; whether it has a false one; and a free one, while it is due.
+    let mut due = owes(owed, selector);
     let mut touched = false;
     let mut free = Choice::NothingToTry;
     let mut i = 0;
     while i < clauses.len() {
         let byte = clauses[i];
         if byte == 0 {
-            if unmet {
-                match free {
-                    Choice::Try(literal) => {
-                        if touched {
-                            return Choice::Try(literal);
-                        }
-                        untouched = or_later(untouched, free);
+            match free {
+                Choice::Try(literal) => {
+                    if touched {
+                        return Choice::Try(literal);
                     }
-                    Choice::NothingToTry => {}
+                    untouched = or_later(untouched, free);
                 }
+                Choice::NothingToTry => {}
             }
             selector = next_selector(selector);
-            unmet = owes(owed, selector);
+            due = owes(owed, selector);
             touched = false;
             free = Choice::NothingToTry;
-        } else if unmet {
+        } else if due {
             let at = slot(byte);
             let value = values[at];
             if FREE <= value {
                 free = Choice::Try(byte);
             } else if value == wish(byte) {
-                unmet = false;
+                due = false;
+                free = Choice::NothingToTry;
             } else {
                 touched = true;
             }

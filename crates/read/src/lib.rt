@@ -56,24 +56,17 @@ fn advanced(stage: Stage, found: Found, size: usize) -> Advance
     ensures { λ r. ⌜ r ≡ advance stage found size ⌝ }
 {
     match stage {
-        Stage::Fresh => match found {
-            Found::Header { count, next: _ } => Advance::On(Stage::Under {
+        Stage::Fresh => {
+            let Found::Header { count, next: _ } = found else {
+                return Advance::Over(Checked::Bad { line: 1 });
+            };
+            Advance::On(Stage::Under {
                 count,
                 hards: 0,
                 softs: 0,
                 line: 2,
-            }),
-            Found::Hard {
-                literals: _,
-                next: _,
-            } => Advance::Over(Checked::Bad { line: 1 }),
-            Found::Soft {
-                literals: _,
-                next: _,
-            } => Advance::Over(Checked::Bad { line: 1 }),
-            Found::End { next: _ } => Advance::Over(Checked::Bad { line: 1 }),
-            Found::NoFrame => Advance::Over(Checked::Bad { line: 1 }),
-        },
+            })
+        }
         Stage::Under {
             count,
             hards,
@@ -183,9 +176,7 @@ fn pass_frame(
             Found::Soft { literals, next: _ } => {
                 copy_clause(text, at + LITERALS_AT, literals, soft, soft_place(stage));
             }
-            Found::Header { count: _, next: _ } => {}
-            Found::End { next: _ } => {}
-            Found::NoFrame => {}
+            Found::Header { count: _, next: _ } | Found::End { next: _ } | Found::NoFrame => {}
         },
     }
     advance

@@ -16,7 +16,7 @@ use Rattle.literals.specs.Slots.{slot, AllSet}
 use Rattle.scans.specs.declared.Scanned.{Scanned}
 use Rattle.scans.specs.Scans.{scanned, clausesOf, ReadableAll}
 use Rattle.scans.proofs.Literals.{slot-is-place, forced-literal}
-use Rattle.search.specs.declared.Settled.{Settled}
+use Rattle.search.specs.declared.SettlingEnd.{SettlingEnd}
 use Rattle.search.specs.declared.Outcome.the-variants as outcome
 use Rattle.search.specs.Told.{settledOf, withoutModel, told, either, sides}
 use Rattle.search.proofs.Telling.{told-spent, told-none, told-model, told-after, split-either}
@@ -55,13 +55,13 @@ pub visit-told-spent : (budget used : ℕ) (cs : List (List ℕ)) (values : List
 visit-told-spent budget used cs values h = told-spent budget used (visit cs values) (omega (arith, visits-one (visits-exist cs values)))
 
 -- within it, once settling has ended
-module _ (budget used : ℕ) (cs : List (List ℕ)) (values : List ℕ) (room : used < budget) (end : Settled)
+module _ (budget used : ℕ) (cs : List (List ℕ)) (values : List ℕ) (room : used < budget) (end : SettlingEnd)
     (is : end ≡ settledOf (settle cs values)) where
   fails-so : (q : Bool) → end .fails ≡ q → settle cs values .fails ≡ q
-  fails-so q e = ap (λ (s : Settled). s .fails) (sym is) ∙ e
+  fails-so q e = ap (λ (s : SettlingEnd). s .fails) (sym is) ∙ e
 
   ends-so : end .fails ≡ false → settle cs values ≡ record { fails = false; values = end .values }
-  ends-so e = λ i. record { fails = fails-so false e i; values = ap (λ (s : Settled). s .values) (sym is) i }
+  ends-so e = λ i. record { fails = fails-so false e i; values = ap (λ (s : SettlingEnd). s .values) (sym is) i }
 
   pub visit-told-none : end .fails ≡ true → withoutModel outcome.None (used + 1) ≡ told budget used (visit cs values)
   visit-told-none e = told-none budget used 1 (omega arith) ∙ ap (told budget used) (sym (visit-none cs values (fails-so true e)))

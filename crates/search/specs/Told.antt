@@ -8,13 +8,13 @@ use lib.ListN.{set, replicate}
 use Rattle.setups.specs.Limits.{variablesMost}
 use Rattle.setups.specs.Search.{SearchResult, Model, None, after}
 use Rattle.setups.specs.Searching
-use Rattle.search.specs.declared.Settled.{Settled}
+use Rattle.search.specs.declared.SettlingEnd.{SettlingEnd}
 use Rattle.search.specs.declared.Outcome.{Outcome}
 use Rattle.search.specs.declared.Outcome.the-variants as outcome
 use Rattle.search.specs.declared.Visited.{Visited}
 
 -- the end of settling, as the code hands it on
-abbrev pub settledOf : Searching.Settled → Settled
+abbrev pub settledOf : Searching.Settled → SettlingEnd
 settledOf s = record { fails = s .fails; values = s .values }
 
 -- the values that an answer without a model carries

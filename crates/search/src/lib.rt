@@ -6,7 +6,7 @@ use literals::Values;
 pub use visits::visit;
 
 // Whether settling fails, and the values when it ends.
-pub struct Settled {
+pub struct SettlingEnd {
     pub fails: bool,
     pub values: Values,
 }

@@ -1,6 +1,6 @@
 // Visit and split: a visit settles forced values and hands over to a split, whose sides are visits with a free variable fewer.
 use crate::Outcome;
-use crate::Settled;
+use crate::SettlingEnd;
 use crate::Visited;
 use literals::FirstFree;
 use literals::Values;
@@ -20,7 +20,7 @@ ghost use Rattle.scans.specs.Scans.{clausesOf, ReadableAll};
 ghost use Rattle.search.specs.Told.{settledOf, withoutModel, told, sides};
 
 // Sets forced values one by one: after each the scan starts again from the first clause.
-fn settle(start: Values, first: &[u8], second: &[u8], assumed: &[u8]) -> Settled
+fn settle(start: Values, first: &[u8], second: &[u8], assumed: &[u8]) -> SettlingEnd
     requires { ⌜ ReadableAll (now first) (now second) (now assumed) ⌝ }
     ensures { λ r. ⌜ r ≡ settledOf (Searching.settle (clausesOf (now (first .entry)) (now (second .entry)) (now (assumed .entry))) start) ⌝ }
 {
@@ -28,11 +28,11 @@ fn settle(start: Values, first: &[u8], second: &[u8], assumed: &[u8]) -> Settled
     loop {
         let seen = scan_all(values, first, second, assumed).seen;
         match seen {
-            Seen::AllFalse => return Settled {
+            Seen::AllFalse => return SettlingEnd {
                 fails: true,
                 values,
             },
-            Seen::Enough => return Settled {
+            Seen::Enough => return SettlingEnd {
                 fails: false,
                 values,
             },

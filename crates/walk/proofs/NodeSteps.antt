@@ -35,13 +35,10 @@ module _ {g : Setup} {node : Node} (s : Known g node) where
 
   module _ {next : Node} (k : KeepsHighest node next) where
     pub keep-reached : {found : List ℕ} → Below g (node .given) found → Reached g next found
-    keep-reached b = record { decided = rw (k .given, kept) (keep-decided (count g) (next .left) (node .given) (node .kept) below); before = rw (k .given) b }
-      where
-        below : AboveDecided (count g) (suc (next .left)) (node .given) (node .kept)
-        below = open-below (next .left) (k .left)
-
-        kept : next .kept ≡ node .kept + 2 ^ next .left
-        kept = joined (next .left) (k .left) (node .kept) (next .kept) (not-kept (count g) (next .left) (node .given) (node .kept) below) (k .kept)
+    keep-reached b =
+        let below = open-below (next .left) (k .left) in
+        let kept = joined (next .left) (k .left) (node .kept) (next .kept) (not-kept below) (k .kept) in
+        record { decided = rw (k .given, kept) (keep-decided below); before = rw (k .given) b }
 
   -- ---- it is given up
 
@@ -50,7 +47,7 @@ module _ {g : Setup} {node : Node} (s : Known g node) where
     below = open-below (next .left) (k .left)
 
     given : next .given ≡ node .given + 2 ^ next .left
-    given = joined (next .left) (k .left) (node .given) (next .given) (not-given (count g) (next .left) (node .given) (node .kept) below) (k .given)
+    given = joined (next .left) (k .left) (node .given) (next .given) (not-given below) (k .given)
 
     -- the branch begins in the middle of the node's
     pub give-from : next .given ≡ node .given + 2 ^ (node .left - 1)
@@ -61,7 +58,7 @@ module _ {g : Setup} {node : Node} (s : Known g node) where
     give-to = rw (← (k .left)) (omega (arith, given))
 
     pub give-reached : {found : List ℕ} → Below g (next .given) found → Reached g next found
-    give-reached b = record { decided = rw (given, k .kept) (give-decided (count g) (next .left) (node .given) (node .kept) below); before = b }
+    give-reached b = record { decided = rw (given, k .kept) (give-decided below); before = b }
 
 module _ {g : Setup} {node : Node} {found : List ℕ} (most : count g ≤ settingsMost) (s : Witnessed g node found) where
   known : Known g node
@@ -91,7 +88,7 @@ module _ {g : Setup} {node : Node} {found : List ℕ} (most : count g ≤ settin
   -- Giving up after a dead keep: the node's branch has a way out, and none with the setting kept, so the same witness serves.
   pub give-witnessed : {next : Node} → GivesUpHighest node next → ¬ WayOutBetween g (node .given) (node .given + 2 ^ (node .left - 1)) → Witnessed g next found
   give-witnessed k dead = record {
-    reached = give-reached known k (rw (give-from known k) (below-skip g (node .given) (node .given + 2 ^ (node .left - 1)) found (omega arith) (s .reached .before) dead));
+    reached = give-reached known k (rw (give-from known k) (below-skip (omega arith) (s .reached .before) dead));
     model = s .model;
     meets = rw (k .kept) (s .meets);
     shows = rw (k .witness) (s .shows);
@@ -99,7 +96,7 @@ module _ {g : Setup} {node : Node} {found : List ℕ} (most : count g ≤ settin
 
 -- With no setting left the given-up set is the one way out of the branch, with no further question.
 pub end-way-out : {g : Setup} {node : Node} {found : List ℕ} → Witnessed g node found → node .left ≡ 0 → WayOut g (node .given)
-end-way-out {g} {node} {found} s e =
-    let one = some-way-out g (node .left) (node .given) (node .kept) found (s .reached .decided) (s .reached .before) (s .model) (s .meets) in
+end-way-out {g} {node} s e =
+    let one = some-way-out (s .reached .decided) (s .reached .before) (s .model) (s .meets) in
     let high = subst (λ (x : ℕ). one .0 < node .given + 2 ^ x) e (one .3) in
     subst (WayOut g) (let same : one .0 ≡ node .given = omega (arith, one .2) in same) (one .1)

@@ -26,7 +26,7 @@ root-decided n = record {
   whole = omega arith;
 }
 
-module _ (n i given kept : ℕ) (h : AboveDecided n (suc i) given kept) where
+module _ {n i given kept : ℕ} (h : AboveDecided n (suc i) given kept) where
   -- the highest setting left is neither given up nor kept
   pub not-given : ¬ In i given
   not-given k = low-out i (h .highGiven) (subst (In i) (h .gives) k)

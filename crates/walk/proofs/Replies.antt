@@ -82,7 +82,7 @@ module _ (g : Setup) (m : List ℕ) where
         tight = λ i h. least .2 .1 (S - 2 ^ i) (out-within i S h) (out-differs i S h);
       }
 
-module _ (g : Setup) (left given kept : ℕ) (found : List ℕ) (decided : AboveDecided (count g) left given kept) (before : Below g given found) where
+module _ {g : Setup} {left given kept : ℕ} {found : List ℕ} (decided : AboveDecided (count g) left given kept) (before : Below g given found) where
   -- after No the branch is empty: the model of a way out in it would have met all that was asked
   pub no-way-out : ((m : List ℕ) → Meets g kept found m → Breaks g given m → ⊥) → ¬ WayOutBetween g given (given + 2 ^ left)
   no-way-out refutes s =

@@ -28,8 +28,7 @@ module _ (g : Setup) (settings : ℕ) (e : settings ≡ count g) where
   -- an empty branch at the root: the hard clauses have no model, since every model of theirs leaves a way out
   pub root-unmet : ¬ WayOutBetween g 0 (0 + 2 ^ settings) → ¬ Together g 0
   root-unmet dead t =
-      dead
-      (some-way-out g settings 0 0 [] (root-reached .decided) (root-reached .before) (t .0) (record { models = t .1; each = λ W h. absurd h }))
+      dead (some-way-out (root-reached .decided) (root-reached .before) (t .0) (record { models = t .1; each = λ W h. absurd h }))
 
   -- a live root: the walk goes through all ways out
   pub root-walked : (live : Node) → live .left ≡ settings → live .given ≡ 0 → (found places : List ℕ) (filled : ℕ)

@@ -23,14 +23,14 @@ walked-end g node filled places e s l = rw e (record {
 })
 
 -- The places hold the ways out below `middle`, and the walk goes on to `top`.
-module _ (g : Setup) (middle top : ℕ) (places after : List ℕ) (filled : ℕ) (l : middle ≤ top) (w : Walked g middle places after filled) where
+module _ {g : Setup} {middle top : ℕ} {places after : List ℕ} {filled : ℕ} (l : middle ≤ top) (w : Walked g middle places after filled) where
   same-length : length after ≡ length places
   same-length = rw (w .places) (over-length (w .ways) places)
 
   -- the places are full
   pub walked-full : length after ≤ filled → Walked g top places after filled
   walked-full full =
-      let m = below-more g middle top (w .ways) l (w .exact) in
+      let m = below-more l (w .exact) in
       record {
         ways = w .ways ++ m .0;
         exact = m .1;
@@ -47,13 +47,12 @@ module _ (g : Setup) (middle top : ℕ) (places after : List ℕ) (filled : ℕ)
 
   -- there is none from `middle` up
   pub walked-dead : ¬ WayOutBetween g middle top → Walked g top places after filled
-  walked-dead dead =
-      record { ways = w .ways; exact = below-skip g middle top (w .ways) l (w .exact) dead; places = w .places; count = w .count }
+  walked-dead dead = record { ways = w .ways; exact = below-skip l (w .exact) dead; places = w .places; count = w .count }
 
   -- or those follow
-  pub walked-on : (end : List ℕ) (reached : ℕ) → Walked g top after end reached → Walked g top places end reached
-  walked-on end reached v =
-      let m = below-on g middle top (w .ways) l (w .exact) (v .ways) (v .exact) in
+  pub walked-on : {end : List ℕ} {reached : ℕ} → Walked g top after end reached → Walked g top places end reached
+  walked-on v =
+      let m = below-on l (w .exact) (v .exact) in
       record {
         ways = v .ways;
         exact = v .exact;
@@ -70,29 +69,21 @@ pub record Half (g : Setup) (node up kept : Node) (places after : List ℕ) (fil
   pub walked : Walked g (kept .given + 2 ^ kept .left) places after filled
 
 module _ {g : Setup} {node up kept : Node} {places after : List ℕ} {filled : ℕ} (h : Half g node up kept places after filled) where
-  top : ℕ
-  top = node .given + 2 ^ node .left
-
   half : Walked g (up .given) places after filled
   half = rw (give-from (h .known) (h .gives), ← (h .left), ← (h .given)) (h .walked)
 
-  more : up .given ≤ top
-  unfolding top
+  more : up .given ≤ node .given + 2 ^ node .left
   more = omega (arith, give-to (h .known) (h .gives))
 
   pub half-full : length after ≤ filled → Walked g (node .given + 2 ^ node .left) places after filled
-  unfolding top
-  half-full = walked-full g (up .given) top places after filled more half
+  half-full = walked-full more half
 
   pub half-reached : filled < length after → Reached g up (take filled after)
-  half-reached room = give-reached (h .known) (h .gives) (walked-below g (up .given) top places after filled more half room)
+  half-reached room = give-reached (h .known) (h .gives) (walked-below more half room)
 
   pub half-dead : ¬ WayOutBetween g (up .given) (up .given + 2 ^ up .left) → Walked g (node .given + 2 ^ node .left) places after filled
-  unfolding top
-  half-dead dead = walked-dead g (up .given) top places after filled more half (rw (give-to (h .known) (h .gives)) at dead)
+  half-dead dead = walked-dead more half (rw (give-to (h .known) (h .gives)) at dead)
 
   pub half-on : (live : Node) {last : List ℕ} {reached : ℕ} → live .left ≡ up .left → live .given ≡ up .given
       → Walked g (live .given + 2 ^ live .left) after last reached → Walked g (node .given + 2 ^ node .left) places last reached
-  unfolding top
-  half-on live {last} {reached} left given w =
-      walked-on g (up .given) top places after filled more half last reached (rw (← (give-to (h .known) (h .gives)), ← left, ← given) w)
+  half-on live left given w = walked-on more half (rw (← (give-to (h .known) (h .gives)), ← left, ← given) w)

@@ -17,7 +17,7 @@ use Rattle.walk.specs.Walking.{Below, WayOutBetween}
 pub below-next : (g : Setup) (S : ℕ) (list : List ℕ) → Below g S list → WayOut g S → Below g (S + 1) (list ++ (S ∷ []))
 below-next g S list b w = rw (add-one S) (exactly-next (WayOut g) S list b w)
 
-module _ (g : Setup) (low high : ℕ) (list : List ℕ) (l : low ≤ high) (b : Below g low list) where
+module _ {g : Setup} {low high : ℕ} {list : List ℕ} (l : low ≤ high) (b : Below g low list) where
   -- none is between the bounds
   pub below-skip : ¬ WayOutBetween g low high → Below g high list
   below-skip none = exactly-skip (WayOut g) low high list l (λ S from to w. none (S, w, from, to)) b
@@ -48,7 +48,7 @@ module _ (g : Setup) (low high : ℕ) (list : List ℕ) (l : low ≤ high) (b : 
           high (λ S h. h .2)
 
   -- so that every list up to `high` goes on from the list up to `low`
-  pub below-on : (long : List ℕ) → Below g high long → (more : List ℕ) × (long ≡ list ++ more)
-  below-on long h =
+  pub below-on : {long : List ℕ} → Below g high long → (more : List ℕ) × (long ≡ list ++ more)
+  below-on {long} h =
       let m = below-more in
       (m .0, exactly-unique (λ S. WayOut g S × (S < high)) long (list ++ m .0) h (m .1))

@@ -5,7 +5,7 @@ use borrow.Author.Needs.{needs}
 use Rattle.frames.specs.declared.frames.Found.the-variants.{Hard, Soft}
 use Rattle.frames.specs.Code.Found.{foundAt}
 use Rattle.read.proofs.Passing.{hard-clause, soft-clause}
-use Rattle.read.proofs.Filling.{hard-room, soft-room}
+use Rattle.read.proofs.Filling.{hard-room, soft-room, brings-none}
 use Rattle.read.proofs.pass_frame.Statement.{statement}
 use Rattle.read.proofs.pass_frame.Tie as tie
 
@@ -53,15 +53,6 @@ copy-clause-requires-2 c κs =
     let room = soft-room _ _ _ _ _ _ _ (c .before .before .before .before .before .enum-told2 .given .1) (c .before .before .before .before .before .before .before .before .before .before .before .pre .2) _ _ (c .before .before .before .found2 .given .1) in
     (soft-clause _ _ _ _ (soft-at (c .before .before .before)) .within, omega (arith, room, c .soft-place .ensures))
 
-enum-told-3 : tie.Need-enum-told-3
-enum-told-3 c = search needs
-
-enum-told-4 : tie.Need-enum-told-4
-enum-told-4 c = search needs
-
-enum-told-5 : tie.Need-enum-told-5
-enum-told-5 c = search needs
-
 returns : tie.Need-returns
 returns c = (c .before .before .advanced .ensures, rw (c .enum-told .given .1), rw (c .enum-told .given .1))
 
@@ -78,13 +69,10 @@ returns-3 : tie.Need-returns-3
 returns-3 c = (c .before .before .before .before .before .before .before .before .before .before .advanced .ensures, rw (c .before .before .before .before .before .before .before .before .enum-told2 .given .1, c .before .before .before .before .before .before .found2 .given .1), rw (c .before .before .before .before .before .before .before .before .enum-told2 .given .1, c .before .before .before .before .before .before .found2 .given .1, ← c .before .before .before .soft-place .ensures) (c .before .before .copy-clause2 .ensures))
 
 returns-4 : tie.Need-returns-4
-returns-4 c = (c .before .before .before .before .advanced .ensures, rw (c .before .before .enum-told2 .given .1, c .enum-told3 .given .1), rw (c .before .before .enum-told2 .given .1, c .enum-told3 .given .1))
-
-returns-5 : tie.Need-returns-5
-returns-5 c = (c .before .before .before .before .advanced .ensures, rw (c .before .before .enum-told2 .given .1, c .enum-told4 .given .1), rw (c .before .before .enum-told2 .given .1, c .enum-told4 .given .1))
-
-returns-6 : tie.Need-returns-6
-returns-6 c = (c .before .before .before .before .advanced .ensures, rw (c .before .before .enum-told2 .given .1, c .enum-told5 .given .1), rw (c .before .before .enum-told2 .given .1, c .enum-told5 .given .1))
+returns-4 c =
+    let a = c .before .before .before .before .before .before .before .args in
+    let none = brings-none (a .text .now) (a .at) (a .found) (c .match2 .keys3) in
+    (c .before .before .before .advanced .ensures, rw (c .before .enum-told2 .given .1, none .0), rw (c .before .enum-told2 .given .1, none .1))
 
 pub pass-frame-spec : {M : Type 1} → statement M
 pass-frame-spec =
@@ -101,14 +89,9 @@ pass-frame-spec =
     add-copy-clause-2
     soft-place-requires
     copy-clause-requires-2
-    enum-told-3
-    enum-told-4
-    enum-told-5
     returns
     same-length
     returns-2
     same-length-2
     returns-3
-    returns-4
-    returns-5
-    returns-6)
+    returns-4)

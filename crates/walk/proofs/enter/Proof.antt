@@ -30,7 +30,7 @@ returns-2 c =
     let s = asked .before .before .before .before in
     let a = s .args in
     let g = setup (a .count) (a .hard .now) (a .soft .now) in
-    no-way-out g (a .node .left) (a .node .given) (a .node .kept) (a .found .now) (s .pre .1 .decided) (s .pre .1 .before)
+    no-way-out (s .pre .1 .decided) (s .pre .1 .before)
     (subst (Says g (a .node .kept) (a .node .given) (a .found .now)) (c .enum-told .given .1) (asked .question .ensures))
 
 pub enter-spec : {M : Type 1} → statement M

@@ -17,7 +17,7 @@ abbrev μ-loop : tie.MeasureT-loop
 μ-loop owed clauses forced₀ seen₀ selector₀ i₀ forced seen selector i = length clauses - i
 
 loop-holds : tie.Need-loop-holds Inv-loop μ-loop
-loop-holds c = forcing-starts _ _ _ _ (c .before .pre) refl
+loop-holds c = forcing-starts (c .before .pre) refl
 
 shared-slice-read-byte : tie.Need-shared-slice-read-byte Inv-loop μ-loop
 shared-slice-read-byte c = search needs
@@ -31,8 +31,8 @@ end-clause-requires c κs = let at = c .before .before .before .before .loop .in
 returns : tie.Need-returns Inv-loop μ-loop
 returns c =
     let inside = c .before .before .before .before .before in
-    forcing-on _ _ _ _ _ _ _ (inside .before .loop .inv) (inside .loop-test .taken) (c .before .before .before .if1 .taken) _
-    (c .before .before .owes .ensures) _ (c .before .end-clause .ensures)
+    forcing-on (inside .before .loop .inv) (inside .loop-test .taken) (c .before .before .before .if1 .taken) (c .before .before .owes .ensures)
+    (c .before .end-clause .ensures)
 
 next-selector-requires : tie.Need-next-selector-requires Inv-loop μ-loop
 next-selector-requires c κs = search needs
@@ -59,9 +59,9 @@ loop-again c =
     let l = inside .loop-test .taken in
     ⊎-elim
     (λ w. rw (w .5, w .6)
-    (forcing-ends _ _ _ _ _ _ _ (at .inv) l (w .0 .taken) _ (w .1 .ensures) _ (w .2 .ensures) (w .3 .left) _
+    (forcing-ends (at .inv) l (w .0 .taken) (w .1 .ensures) (w .2 .ensures) (w .3 .left)
     (ap (λ (x : Selector). x .0) (w .7) ∙ w .4 .ensures)))
-    (λ w. rw (w .4, w .6) (forcing-reads _ _ _ _ _ _ _ (at .inv) l (w .0 .left) _ (w .2 .ensures) _ (w .5 ∙ w .3 .ensures)))
+    (λ w. rw (w .4, w .6) (forcing-reads (at .inv) l (w .0 .left) (w .2 .ensures) (w .5 ∙ w .3 .ensures)))
     (c .if1 .came)
 
 returns-2 : tie.Need-returns-2 Inv-loop μ-loop

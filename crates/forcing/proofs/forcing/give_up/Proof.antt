@@ -22,7 +22,7 @@ start-requires : tie.Need-start-requires Inv-loop μ-loop
 start-requires c κs = search needs
 
 loop-holds : tie.Need-loop-holds Inv-loop μ-loop
-loop-holds c = giving-starts _ _ _ _ (ap (λ (x : Progress). x .fails) (c .start .ensures)) refl
+loop-holds c = giving-starts (ap (λ (x : Progress). x .fails) (c .start .ensures)) refl
 
 shared-slice-read-byte : tie.Need-shared-slice-read-byte Inv-loop μ-loop
 shared-slice-read-byte c = search needs
@@ -43,9 +43,9 @@ returns c =
     let enters = start .before .before in
     let small : enters .args .given < 2 ^ settingsMost = omega (arith, enters .fits .given) in
     rw (← start .start .ensures)
-    (giving-denies _ _ _ _ _ _ (inside .before .loop .inv) (inside .loop-test .taken) (c .before .before .before .before .if1 .left)
+    (giving-denies (inside .before .loop .inv) (inside .loop-test .taken) (c .before .before .before .before .if1 .left)
     small (enters .pre)
-    (c .before .before .before .has-selector .ensures .0 (c .before .before .if2 .taken)) _ (c .before .deny .ensures))
+    (c .before .before .before .has-selector .ensures .0 (c .before .before .if2 .taken)) (c .before .deny .ensures))
 
 add-i : tie.Need-add-i Inv-loop μ-loop
 add-i c = search needs
@@ -61,11 +61,11 @@ loop-again c =
     let enters = inside .before .before .before .before in
     let small : enters .args .given < 2 ^ settingsMost = omega (arith, enters .fits .given) in
     ⊎-elim
-    (λ w. rw (w .2) (giving-ends _ _ _ _ _ _ (at .inv) l (w .0 .taken) _ (ap (λ (x : Selector). x .0) (w .3) ∙ w .1 .ensures)))
+    (λ w. rw (w .2) (giving-ends (at .inv) l (w .0 .taken) (ap (λ (x : Selector). x .0) (w .3) ∙ w .1 .ensures)))
     (⊎-elim
     (λ w. rw (w .5, w .6)
-    (giving-on _ _ _ _ _ _ (at .inv) l (w .0 .left) small (enters .pre) (w .1 .ensures .0 (w .2 .taken)) _ (w .3 .ensures) (w .4 .left)))
-    (λ w. rw (w .3, w .4) (giving-reads _ _ _ _ _ _ (at .inv) l (w .0 .left))))
+    (giving-on (at .inv) l (w .0 .left) small (enters .pre) (w .1 .ensures .0 (w .2 .taken)) (w .3 .ensures) (w .4 .left)))
+    (λ w. rw (w .3, w .4) (giving-reads (at .inv) l (w .0 .left))))
     (c .if1 .came)
 
 returns-2 : tie.Need-returns-2 Inv-loop μ-loop

@@ -17,7 +17,7 @@ abbrev μ-loop : tie.MeasureT-loop
 μ-loop hard values chance₀ i₀ chance i = length hard - i
 
 loop-holds : tie.Need-loop-holds Inv-loop μ-loop
-loop-holds c = meeting-starts _ _ _ refl
+loop-holds c = meeting-starts refl
 
 shared-slice-read-byte : tie.Need-shared-slice-read-byte Inv-loop μ-loop
 shared-slice-read-byte c = search needs
@@ -26,7 +26,7 @@ returns : tie.Need-returns Inv-loop μ-loop
 returns c =
     let inside = c .before .before .before .before in
     let at = inside .before .loop in
-    meeting-fails _ _ (at .chance) (at .i) (at .inv) (inside .loop-test .taken) (c .before .before .if1 .taken)
+    meeting-fails (at .inv) (inside .loop-test .taken) (c .before .before .if1 .taken)
     (not-true (at .chance .sure) (c .if2 .taken))
 
 slot-requires : tie.Need-slot-requires Inv-loop μ-loop
@@ -50,13 +50,12 @@ loop-again c =
     let at = inside .before .loop in
     let l = inside .loop-test .taken in
     ⊎-elim
-    (λ w.
-    meeting-ends _ _ (at .chance) (at .i) (at .inv) l (w .0 .taken) (not-false (at .chance .sure) (w .2 .left)) _ (w .3))
-    (λ w. meeting-reads _ _ (at .chance) (at .i) (at .inv) l (w .0 .left) _ (w .1 .ensures) _ (w .3 ∙ w .2 .ensures))
+    (λ w. meeting-ends (at .inv) l (w .0 .taken) (not-false (at .chance .sure) (w .2 .left)) (w .3))
+    (λ w. meeting-reads (at .inv) l (w .0 .left) (w .1 .ensures) (w .3 ∙ w .2 .ensures))
     (c .if1 .came)
 
 returns-2 : tie.Need-returns-2 Inv-loop μ-loop
-returns-2 c = meeting-done _ _ _ _ (c .before .loop .inv) (c .loop-test .left)
+returns-2 c = meeting-done (c .before .loop .inv) (c .loop-test .left)
 
 pub met-spec : {M : Type 1} → statement M
 met-spec =

@@ -6,10 +6,10 @@ use Rattle.question.proofs.choosing.pick.Statement.{statement}
 use Rattle.question.proofs.choosing.pick.Tie as tie
 
 abbrev Inv-loop : tie.InvT-loop
-Inv-loop owed clauses values untouched₀ selector₀ unmet₀ touched₀ free₀ i₀ untouched selector unmet touched free i = i ≤ length clauses
+Inv-loop owed clauses values untouched₀ selector₀ due₀ touched₀ free₀ i₀ untouched selector due touched free i = i ≤ length clauses
 
 abbrev μ-loop : tie.MeasureT-loop
-μ-loop owed clauses values untouched₀ selector₀ unmet₀ touched₀ free₀ i₀ untouched selector unmet touched free i = length clauses - i
+μ-loop owed clauses values untouched₀ selector₀ due₀ touched₀ free₀ i₀ untouched selector due touched free i = length clauses - i
 
 owes-requires : tie.Need-owes-requires Inv-loop μ-loop
 owes-requires c κs = search needs
