@@ -2,12 +2,12 @@
 use mathlib.Core.Path.{_≡_, refl, ap}
 use mathlib.Core.Logic.{_↔_, by-cases}
 use mathlib.Core.Bool.{Bool, not}
-use mathlib.Core.List.{List, [], _∷_}
+use mathlib.Core.List.{List}
 use Prim.Native.Nat.{ℕ, zero, suc, _+_, _<_}
 use native.Mathlib.Nat.{not-suc-le-zero, le-of-suc-le-suc}
 use native.Mathlib.Omega.{arith}
 use lib.Dec.{T}
-use lib.ListN.{length, getD, replicate}
+use lib.ListN.{length, getD}
 use Rattle.sets.specs.Sets.{In}
 use Rattle.sets.specs.Lists.{Among}
 use Rattle.sets.specs.Tests.{has, all}
@@ -110,11 +110,3 @@ marks-at n list i l = from 0 n i i l (omega arith)
     from k zero i place l e = absurd (not-suc-le-zero l)
     from k (suc n) zero place l e = ap (mark list) (let z : k ≡ place = omega arith in z)
     from k (suc n) (suc i) place l e = from (suc k) n i place (le-of-suc-le-suc l) (omega arith)
-
--- over the empty list all settings are kept
-pub marks-empty : (n : ℕ) → marks n [] ≡ replicate n kept
-marks-empty n = from 0 n
-  where
-    from : (i n : ℕ) → marksFrom i n [] ≡ replicate n kept
-    from i zero = refl
-    from i (suc n) = ap (λ (rest : List ℕ). kept ∷ rest) (from (suc i) n)

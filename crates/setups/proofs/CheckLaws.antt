@@ -23,26 +23,26 @@ use Rattle.setups.proofs.Truth.{literal-goes-on, first-clause}
 -- ---- a walk over a buffer
 
 -- at place i, `so-far` of the whole is found, and the bytes from there on give the rest of it
-pub record Walked (rest : List ℕ → ℕ) (bytes : List ℕ) (whole so-far i : ℕ) : Type 0 where
+pub record WalkedTo (rest : List ℕ → ℕ) (bytes : List ℕ) (whole so-far i : ℕ) : Type 0 where
   pub inside : i ≤ length bytes
   pub gives : whole ≡ so-far + rest (drop i bytes)
 
-pub walk-starts : (rest : List ℕ → ℕ) (bytes : List ℕ) → Walked rest bytes (rest bytes) 0 0
+pub walk-starts : (rest : List ℕ → ℕ) (bytes : List ℕ) → WalkedTo rest bytes (rest bytes) 0 0
 walk-starts rest bytes = record { inside = zero-le; gives = omega arith }
 
-module _ {rest : List ℕ → ℕ} {bytes : List ℕ} {whole so-far i : ℕ} (at : Walked rest bytes whole so-far i) where
+module _ {rest : List ℕ → ℕ} {bytes : List ℕ} {whole so-far i : ℕ} (at : WalkedTo rest bytes whole so-far i) where
   -- the byte at i, and those after it
   here : i < length bytes → rest (drop i bytes) ≡ rest (getD bytes i 0 ∷ drop (i + 1) bytes)
   here l = ap rest (front bytes i l)
 
   -- the walk goes on past a byte that counts one
   pub walk-counts : (next : List ℕ → ℕ) → i < length bytes → ((tail : List ℕ) → rest (getD bytes i 0 ∷ tail) ≡ suc (next tail))
-      → Walked next bytes whole (so-far + 1) (i + 1)
+      → WalkedTo next bytes whole (so-far + 1) (i + 1)
   walk-counts next l step = record { inside = omega arith; gives = omega (arith, at .gives, here l, step (drop (i + 1) bytes)) }
 
   -- or past one that counts nothing
   pub walk-passes : (next : List ℕ → ℕ) → i < length bytes → ((tail : List ℕ) → rest (getD bytes i 0 ∷ tail) ≡ next tail)
-      → Walked next bytes whole so-far (i + 1)
+      → WalkedTo next bytes whole so-far (i + 1)
   walk-passes next l step = record { inside = omega arith; gives = omega (arith, at .gives, here l, step (drop (i + 1) bytes)) }
 
   -- or stops at one where nothing is left to find
@@ -63,7 +63,7 @@ first-passes test b e tail = rw e
 
 -- the walk of both literal checks, at place i
 abbrev pub FirstFrom : (ℕ → Bool) → List ℕ → ℕ → Type 0
-FirstFrom test bytes i = Walked (firstPlace test) bytes (firstPlace test bytes) i i
+FirstFrom test bytes i = WalkedTo (firstPlace test) bytes (firstPlace test bytes) i i
 
 -- it stops at a byte that offends
 pub first-found : (test : ℕ → Bool) (bytes : List ℕ) (i : ℕ) → FirstFrom test bytes i → i < length bytes

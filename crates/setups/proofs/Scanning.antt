@@ -117,14 +117,14 @@ module _ (values : List ℕ) where
 -- ---- scans
 
 -- what a scan says: some clause is wholly false; some clause forces the literal; neither
-abbrev pub Scanned : List ℕ → List (List ℕ) → Seen → Type 0
-Scanned values cs AllFalse = T (broken values cs)
-Scanned values cs (OneFree b) = (clause : List ℕ) × Among clause cs × Forces values clause b
-Scanned values cs Enough = Stable cs values
+abbrev pub ScanRight : List ℕ → List (List ℕ) → Seen → Type 0
+ScanRight values cs AllFalse = T (broken values cs)
+ScanRight values cs (OneFree b) = (clause : List ℕ) × Among clause cs × Forces values clause b
+ScanRight values cs Enough = Stable cs values
 
 -- a clause in front decides, or leaves it to the others
-scan-next : (values clause : List ℕ) (rest : List (List ℕ)) (k j : Seen) → SeenRight values clause k → Scanned values rest j
-    → Scanned values (clause ∷ rest) (orElse k j)
+scan-next : (values clause : List ℕ) (rest : List (List ℕ)) (k j : Seen) → SeenRight values clause k → ScanRight values rest j
+    → ScanRight values (clause ∷ rest) (orElse k j)
 scan-next values clause rest AllFalse j h g = or-left (allFalse values clause) (broken values rest) h
 scan-next values clause rest (OneFree b) j h g = (clause, inl refl, h)
 scan-next values clause rest Enough AllFalse h g = or-right (allFalse values clause) (broken values rest) g
@@ -135,15 +135,15 @@ scan-next values clause rest Enough Enough h g = record {
 }
 
 -- so that the first clause decides that can
-scan-told : (values : List ℕ) (cs : List (List ℕ)) → Scanned values cs (scan values cs)
+scan-told : (values : List ℕ) (cs : List (List ℕ)) → ScanRight values cs (scan values cs)
 unfolding scan
 scan-told values [] = record { whole = λ t. t; calm = λ c among b f. among }
 scan-told values (clause ∷ rest) =
     scan-next values clause rest (seeClause values AllFalse clause) (scan values rest) (see-clause-right values clause) (scan-told values rest)
 
 -- what a scan says is right
-pub scan-right : (values : List ℕ) (cs : List (List ℕ)) (k : Seen) → scan values cs ≡ k → Scanned values cs k
-scan-right values cs k e = subst (Scanned values cs) e (scan-told values cs)
+pub scan-right : (values : List ℕ) (cs : List (List ℕ)) (k : Seen) → scan values cs ≡ k → ScanRight values cs k
+scan-right values cs k e = subst (ScanRight values cs) e (scan-told values cs)
 
 -- ---- free values
 

@@ -9,12 +9,13 @@ use Rattle.sets.specs.Lists.{Exactly}
 use Rattle.numbers.proofs.Deciding.{and-left, and-right}
 use Rattle.sets.proofs.Tests.{lists, lists-exactly}
 use Rattle.sets.proofs.Turning.{turn-exists}
-use Rattle.setups.specs.Setups.{Setup, setup, count, WayOut, Clash}
+use Rattle.setups.specs.Setups.{Setup, setup, count, Together, WayOut, Clash}
 use Rattle.setups.specs.Tests.{together, wayOut, clash}
 use Rattle.setups.specs.Ask.{askResult}
 use Rattle.setups.specs.List.{listRefusal, listedResult, ListGives}
 use Rattle.setups.specs.GivenOut.{ListResult}
 use Rattle.setups.proofs.Tests.{together-iff, way-out-iff, clash-iff}
+use Rattle.setups.proofs.Duality.{unmet-ways-out, unmet-clashes}
 use Rattle.table.specs.Rows.{Row, UnmetRow, P4-hard, P4-soft, P4-ways}
 use Rattle.table.specs.Table.{Table}
 
@@ -37,12 +38,10 @@ row : {g : Setup} {ways clashes : List ℕ} → T (together g 0) → T (exact g 
 row {g} {ways} {clashes} met t =
     record { met = together-iff g 0 .0 met; ways-out = ways-exactly g ways clashes t; clash = clashes-exactly g ways clashes t }
 
-unmet-row : {g : Setup} → T (not (together g 0)) → T (exact g [] (0 ∷ [])) → UnmetRow g
-unmet-row {g} unmet t = record {
-  unmet = λ h. T-not (together g 0) unmet (together-iff g 0 .1 h);
-  ways-out = ways-exactly g [] (0 ∷ []) t;
-  clash = clashes-exactly g [] (0 ∷ []) t;
-}
+unmet-row : {g : Setup} → T (not (together g 0)) → UnmetRow g
+unmet-row {g} none =
+    let unmet : ¬ Together g 0 = λ h. T-not (together g 0) none (together-iff g 0 .1 h) in
+    record { unmet = unmet; ways-out = unmet-ways-out g unmet; clash = unmet-clashes g unmet }
 
 -- List over P4: what it says in a room follows from the row
 P4-lists : (list scratch : List ℕ) (r : ListResult)
@@ -60,7 +59,7 @@ unfolding askResult
 table = record {
   p1 = row tt tt;
   p2 = row tt tt;
-  p3 = unmet-row tt tt;
+  p3 = unmet-row tt;
   p4 = row tt tt;
   p5 = row tt tt;
   p6 = row tt tt;

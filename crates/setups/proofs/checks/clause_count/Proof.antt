@@ -6,12 +6,12 @@ use Prim.Native.Nat.{_-_, _≤_}
 use native.Mathlib.Omega.{arith}
 use lib.ListN.{length}
 use Rattle.setups.specs.Clauses.{clauses}
-use Rattle.setups.proofs.CheckLaws.{Walked, walk-starts, walk-counts, walk-passes, walk-ends, clauses-end, clauses-literal}
+use Rattle.setups.proofs.CheckLaws.{WalkedTo, walk-starts, walk-counts, walk-passes, walk-ends, clauses-end, clauses-literal}
 use Rattle.setups.proofs.checks.clause_count.Statement.{statement}
 use Rattle.setups.proofs.checks.clause_count.Tie as tie
 
 abbrev Inv-loop : tie.InvT-loop
-Inv-loop bytes count₀ i₀ count i = (count ≤ i) × Walked (λ rest. length (clauses rest)) bytes (length (clauses bytes)) count i
+Inv-loop bytes count₀ i₀ count i = (count ≤ i) × WalkedTo (λ rest. length (clauses rest)) bytes (length (clauses bytes)) count i
 
 abbrev μ-loop : tie.MeasureT-loop
 μ-loop bytes count₀ i₀ count i = length bytes - i

@@ -5,12 +5,12 @@ use Prim.Native.Nat.{_-_}
 use native.Mathlib.Omega.{arith}
 use lib.ListN.{length}
 use Rattle.setups.specs.Code.Checks.{longPlace}
-use Rattle.setups.proofs.CheckLaws.{Walked, walk-starts, walk-counts, walk-stops, walk-ends, long-end, long-literal, long-stops}
+use Rattle.setups.proofs.CheckLaws.{WalkedTo, walk-starts, walk-counts, walk-stops, walk-ends, long-end, long-literal, long-stops}
 use Rattle.setups.proofs.checks.long_place.Statement.{statement}
 use Rattle.setups.proofs.checks.long_place.Tie as tie
 
 abbrev Inv-loop : tie.InvT-loop
-Inv-loop bytes run₀ i₀ run i = Walked (longPlace run) bytes (longPlace 0 bytes) i i
+Inv-loop bytes run₀ i₀ run i = WalkedTo (longPlace run) bytes (longPlace 0 bytes) i i
 
 abbrev μ-loop : tie.MeasureT-loop
 μ-loop bytes run₀ i₀ run i = length bytes - i

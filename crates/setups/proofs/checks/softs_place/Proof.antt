@@ -6,12 +6,12 @@ use native.Mathlib.Omega.{arith}
 use lib.ListN.{length}
 use Rattle.setups.specs.Limits.{settingsMost}
 use Rattle.setups.specs.Code.Checks.{settingPlace}
-use Rattle.setups.proofs.CheckLaws.{Walked, walk-starts, walk-counts, walk-stops, walk-ends, setting-literal, setting-end, setting-stops}
+use Rattle.setups.proofs.CheckLaws.{WalkedTo, walk-starts, walk-counts, walk-stops, walk-ends, setting-literal, setting-end, setting-stops}
 use Rattle.setups.proofs.checks.softs_place.Statement.{statement}
 use Rattle.setups.proofs.checks.softs_place.Tie as tie
 
 abbrev Inv-loop : tie.InvT-loop
-Inv-loop soft left₀ i₀ left i = Walked (settingPlace left) soft (settingPlace settingsMost soft) i i
+Inv-loop soft left₀ i₀ left i = WalkedTo (settingPlace left) soft (settingPlace settingsMost soft) i i
 
 abbrev μ-loop : tie.MeasureT-loop
 μ-loop soft left₀ i₀ left i = length soft - i
