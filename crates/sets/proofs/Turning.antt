@@ -97,30 +97,6 @@ module _ (n : ℕ) (list : List ℕ) (fine : Fine n list) where
           (Iff·trans (cross-iff n (λ M. Among M turned) (Smallest (Dual n (Above n list))) (turn-dual turned t) S)
           (back n (Above n list) above-up S)))
 
-  -- turning a list and turning the result gives the first list again
-  pub turn-twice : (turned again : List ℕ) → Turned n list turned → Turned n turned again → again ≡ list
-  turn-twice turned again t u = turn-unique n turned again list u (turn-back turned t)
-
--- all of this at once: the turn, that there is no second one, that it may be turned, and that it turns into the first list alone
-pub record TurningTwice (n : ℕ) (list : List ℕ) : Type 0 where
-  pub turn : List ℕ
-  pub turned : Turned n list turn
-  pub alone : (second : List ℕ) → Turned n list second → second ≡ turn
-  pub fine : Fine n turn
-  pub back : (again : List ℕ) → Turned n turn again ↔ (again ≡ list)
-
--- it holds of every fine list
-pub turning : (n : ℕ) (list : List ℕ) → Fine n list → TurningTwice n list
-turning n list f =
-    let t = turn-exists n list in
-    record {
-      turn = t .0;
-      turned = t .1;
-      alone = λ second s. turn-unique n list second (t .0) s (t .1);
-      fine = turned-fine n list (t .0) (t .1);
-      back = λ again. (turn-twice n list f (t .0) again (t .1), λ e. rw e (turn-back n list f (t .0) (t .1)));
-    }
-
 -- ---- the empty list, and the list of the empty set
 
 -- the turn of the empty list is the list of the empty set alone
