@@ -24,8 +24,7 @@ use Rattle.forcing.specs.Selectors.{nextSelector, Owes, Owing}
 use Rattle.forcing.specs.Rules.{KeepsAnswers, Sees, StillFree, EndsTrue}
 use Rattle.forcing.specs.declared.forcing.Progress.{Progress}
 use Rattle.forcing.specs.declared.selectors.Owed.{Owed}
-use Rattle.forcing.proofs.Verdicts.{verdicts, verdict-clause, verdict-holds, verdicts-length}
-use Rattle.forcing.proofs.Verdicts.{verdicts-end, verdicts-literal, first-fails}
+use Rattle.forcing.proofs.Verdicts.{verdicts, verdict-clause, verdict-holds, verdicts-length, verdicts-end, verdicts-literal, first-fails}
 use Rattle.forcing.proofs.SelectorLaws.{Along, along-starts, along-ends, along-reads, along-inside}
 use Rattle.forcing.proofs.RuleLaws.{answers-still, answers-then, sees-more, fresh-more}
 

@@ -10,9 +10,8 @@ use native.Mathlib.Omega.{arith}
 use lib.ListN.{length, getD, set, replicate}
 use Rattle.setups.specs.Limits.{variablesMost}
 use Rattle.setups.specs.Clauses.{LiteralOf, place}
-use Rattle.literals.specs.Slots.{opening}
+use Rattle.literals.specs.Slots.{opening, slot, AllSet}
 use Rattle.setups.specs.Search.{Lowest}
-use Rattle.literals.specs.Slots.{slot, AllSet}
 
 -- ---- the first values
 

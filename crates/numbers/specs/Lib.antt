@@ -1,3 +1,4 @@
--- The most variables, and the places for their values.
+-- The most variables, and what a negated literal adds.
 pub mod Numbers
+-- where values stand
 pub mod Code

@@ -20,8 +20,7 @@ use Rattle.read.specs.declared.Stage.the-variants.{Fresh, Under}
 use Rattle.read.specs.declared.Advance.{Advance}
 use Rattle.read.specs.declared.Advance.the-variants.{On, Over}
 use Rattle.read.specs.Texts.{Sofar, fresh, under, closed, spoilt, ending, following, good, bad, close, follow, judge, isBad, hardOf, softOf}
-use Rattle.read.specs.Code.Passes.{checked}
-use Rattle.read.specs.Code.Passes.{advance, grown, literalsFound, hardBytes, softBytes}
+use Rattle.read.specs.Code.Passes.{checked, advance, grown, literalsFound, hardBytes, softBytes}
 use Rattle.read.proofs.Following.{Real, Clause, clause, within, follow-end, follow-bad, follow-none, follow-frame}
 
 -- ---- which frame is found

@@ -9,8 +9,7 @@ ghost use lib.ListN.{length, drop};
 ghost use lib.Seq.{sets};
 ghost use Rattle.frames.specs.Code.Found.{bytesFrom, foundAt};
 ghost use Rattle.read.specs.Texts.{ending, judge, hardOf, softOf};
-ghost use Rattle.read.specs.Code.Passes.{checked};
-ghost use Rattle.read.specs.Code.Passes.{advance, grown, literalsFound, hardPlace, softPlace, hardBytes, softBytes, copied, CopyFits, Allowed};
+ghost use Rattle.read.specs.Code.Passes.{checked, advance, grown, literalsFound, hardPlace, softPlace, hardBytes, softBytes, copied, CopyFits, Allowed};
 ghost use Rattle.read.specs.Reading.{Reads};
 
 // How many bytes a text has at the most.

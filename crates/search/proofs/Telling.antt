@@ -7,9 +7,8 @@ use native.Mathlib.Nat.{add-assoc}
 use native.Mathlib.Decide.{decLt}
 use native.Mathlib.Omega.{arith}
 use borrow.Author.Tests.{lt-ltb, le-ltb}
-use Rattle.setups.specs.Search.{SearchResult, Model, None, after}
+use Rattle.setups.specs.Search.{SearchResult, Model, None, after, visitsOf}
 use Rattle.setups.specs.Searching.{split}
-use Rattle.setups.specs.Search.{visitsOf}
 use Rattle.setups.proofs.Visits.{after-count}
 use Rattle.search.specs.declared.Outcome.the-variants as outcome
 use Rattle.search.specs.declared.Visited.{Visited}

@@ -3,8 +3,7 @@ use mathlib.Core.Path.{_≡_, refl, sym, ap, _∙_}
 use mathlib.Core.Logic.{_⊎_, inl, inr, ⊎-elim, _≢_, _↔_, Iff·trans, Iff·symm, by-cases}
 use mathlib.Core.Bool.{Bool, true, false, not, cond, and-false}
 use Prim.Native.Nat.{ℕ, zero, suc, _+_, _-_, _*_, _/_, _%_, _^_, _≤_, _<_, zero-le, min, max}
-use native.Mathlib.Nat.{div-one, div-div-eq-div-mul, div-eq-of-lt, div-eq-of-lt-le, zero-div, pow-succ', le-antisymm, le-refl}
-use native.Mathlib.Nat.{not-suc-le-zero, le-of-suc-le-suc, lt-of-lt-of-le, zero-lt-suc, suc-inj, suc-ne-zero}
+use native.Mathlib.Nat.{div-one, div-div-eq-div-mul, div-eq-of-lt, div-eq-of-lt-le, zero-div, pow-succ', le-antisymm, le-refl, not-suc-le-zero, le-of-suc-le-suc, lt-of-lt-of-le, zero-lt-suc, suc-inj, suc-ne-zero}
 use native.Mathlib.Decide.{ℕ-discrete, decLt}
 use native.Mathlib.Omega.{arith}
 use lib.Arith.{bin-ind}

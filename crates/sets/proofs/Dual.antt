@@ -8,8 +8,7 @@ use native.Mathlib.Omega.{arith}
 use Rattle.sets.specs.Sets.{Within, Share, Smallest}
 use Rattle.sets.specs.Turns.{Crosses, SmallestCross}
 use Rattle.numbers.proofs.Deciding.{any, strong, dec-and, dec-not, dec-iff, stable}
-use Rattle.sets.proofs.Digits.{in-below, within-le, within-self, within-trans, within-dec, share-dec}
-use Rattle.sets.proofs.Digits.{other, other-lt, other-in, other-out, other-other, other-within}
+use Rattle.sets.proofs.Digits.{in-below, within-le, within-self, within-trans, within-dec, share-dec, other, other-lt, other-in, other-out, other-other, other-within}
 
 -- ---- smallest sets
 

@@ -9,8 +9,7 @@ use Rattle.sets.specs.Sets.{Within, Share, Smallest}
 use Rattle.sets.specs.Lists.{Among}
 use Rattle.sets.specs.Turns.{Crosses, SmallestCross, Fine, Turned}
 use Rattle.numbers.proofs.Deciding.{dec-and, dec-not, dec-iff, stable}
-use Rattle.sets.proofs.Digits.{within-antisym, within-self, within-trans, within-none, none-within, within-dec}
-use Rattle.sets.proofs.Digits.{none-share, share-sym, share-dec}
+use Rattle.sets.proofs.Digits.{within-antisym, within-self, within-trans, within-none, none-within, within-dec, none-share, share-sym, share-dec}
 use Rattle.sets.proofs.Lists.{exactly-unique, some-dec, exists, smallest-dec}
 use Rattle.sets.proofs.Dual.{Up, Dual, across, back, cross-iff}
 

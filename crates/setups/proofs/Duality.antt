@@ -11,8 +11,7 @@ use Rattle.sets.specs.Sets.{Smallest}
 use Rattle.sets.specs.Lists.{Among, Exactly}
 use Rattle.sets.specs.Turns.{SmallestCross, Turned}
 use Rattle.numbers.proofs.Deciding.{dec-and, dec-iff, stable}
-use Rattle.sets.proofs.Digits.{in-dec, none-in, none-within, within-le, within-none, within-out, out-within, out-differs, missing}
-use Rattle.sets.proofs.Digits.{other, other-lt, other-in, other-out}
+use Rattle.sets.proofs.Digits.{in-dec, none-in, none-within, within-le, within-none, within-out, out-within, out-differs, missing, other, other-lt, other-in, other-out}
 use Rattle.sets.proofs.Dual.{Up, Dual, across, back, cross-iff}
 use Rattle.sets.proofs.Lists.{exists}
 use Rattle.setups.specs.Setups.{Setup, count, Together, Without, WayOut, Clash}

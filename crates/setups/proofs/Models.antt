@@ -14,8 +14,7 @@ use Rattle.setups.specs.Settling.{isFree, isFalse, allFalse, broken, Set
 use Rattle.setups.specs.Search.{SearchResult, Model, None, after, Lowest, Visit, visit-fails, visit-models, split-low, split-high}
 use Rattle.setups.specs.Searching.{visit, search}
 use Rattle.setups.specs.Meaning.{Earlier, Before, First, Means}
-use Rattle.setups.proofs.Settling.{free-value, true-not-false, literal-cases, Grows, grows-trans, set-grows, set-within, broken-grows}
-use Rattle.setups.proofs.Settling.{Stable, steps-run, run-grows, run-within}
+use Rattle.setups.proofs.Settling.{free-value, true-not-false, literal-cases, Grows, grows-trans, set-grows, set-within, broken-grows, Stable, steps-run, run-grows, run-within}
 use Rattle.setups.proofs.Scanning.{Full}
 use Rattle.setups.proofs.Visits.{visits-exist}
 

@@ -53,8 +53,8 @@ unfolding search
 askResult n bytes assumed budget places =
     let refusal = askRefusal n bytes assumed (length places) in
     let refused : AskResult = record { number = refusal; visits = 0; model = places } in
-    let answered = searchedResult budget places (search n (askClauses bytes assumed)) in
-    cond (eqb refusal 0) answered refused
+    let searched = searchedResult budget places (search n (askClauses bytes assumed)) in
+    cond (eqb refusal 0) searched refused
 
 -- two variables, (1 2), (1 −2), (−1 2): the third visit has the model 1, 1, and the third place stays; the budget 2 is spent
 example-ask :

@@ -1,5 +1,5 @@
 -- The definitions that every contract cites: clauses and truth, setups with their ways out and clashes, the search of an ask,
--- the refusals, and what each job gives back.
+-- the refusals, and what Ask, List, Turn and Mark give back.
 pub mod Limits
 pub mod Clauses
 pub mod Setups
@@ -15,4 +15,5 @@ pub mod GivenOut
 pub mod List
 pub mod Turn
 pub mod Mark
+-- the byte checks, and what they leave known
 pub mod Code

@@ -68,9 +68,8 @@ use Rattle.read.specs.declared.Stage.{Stage}
 use Rattle.read.specs.declared.Stage.the-variants.{Fresh}
 use Rattle.read.specs.declared.Advance.{Advance}
 use Rattle.read.specs.declared.Advance.the-variants.{On, Over}
-use Rattle.read.specs.Code.Passes.{advance, grown, literalsFound, hardPlace, softPlace, hardBytes, softBytes, copied, CopyFits, Allowed}
+use Rattle.read.specs.Code.Passes.{advance, grown, literalsFound, hardPlace, softPlace, hardBytes, softBytes, copied, CopyFits, Allowed, checked}
 use Rattle.read.specs.Texts.{judge, hardOf, softOf}
-use Rattle.read.specs.Code.Passes.{checked}
 use Rattle.read.proofs.Passing.{sums-fit}
 use Rattle.read.proofs.Filling.{Stand, lengths, begun, copy-fits, Passed, passed}
 use Rattle.read.proofs.Again.{slice, Slice, Waits, Lent, lends, returns}

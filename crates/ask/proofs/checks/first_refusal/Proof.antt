@@ -2,9 +2,7 @@
 use mathlib.Core.List.{List}
 use Prim.Native.Nat.{ℕ}
 use borrow.Author.Needs.{needs}
-use Rattle.ask.proofs.Refusing.{fromSize, fromRoom, fromLiteral, fromTail, fromLong, Left}
-use Rattle.ask.proofs.Refusing.{vars-given, vars-left, clauses-size, assumed-size, size-left, room-given, room-left}
-use Rattle.ask.proofs.Refusing.{clauses-literal, assumed-literal, literal-left, tail-given, tail-left, long-given, long-left}
+use Rattle.ask.proofs.Refusing.{fromSize, fromRoom, fromLiteral, fromTail, fromLong, Left, vars-given, vars-left, clauses-size, assumed-size, size-left, room-given, room-left, clauses-literal, assumed-literal, literal-left, tail-given, tail-left, long-given, long-left}
 use Rattle.ask.proofs.checks.first_refusal.Statement.{statement}
 use Rattle.ask.proofs.checks.first_refusal.Tie as tie
 
