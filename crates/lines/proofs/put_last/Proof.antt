@@ -34,10 +34,18 @@ slice-write-output : tie.Need-slice-write-output
 slice-write-output c = search needs
 
 same-length : tie.Need-same-length
-same-length c = simp length-set (c .before .before .put-count2 .kept .0 ∙ c .before .before .before .before .before .before .put-count .kept .0 ∙ c .before .before .before .before .before .before .before .before .before .before .put-byte2 .kept .0 ∙ c .before .before .before .before .before .before .before .before .before .before .before .before .before .before .put-byte .kept .0)
+same-length c =
+    let first = c .before .before .before .before .before .before .before .before .before .before .before .before .before .before in
+    let second = c .before .before .before .before .before .before .before .before .before .before in
+    simp length-set (c .before .before .put-count2 .kept .0 ∙ c .before .before .before .before .before .before .put-count .kept .0 ∙ second .put-byte2 .kept .0 ∙ first .put-byte .kept .0)
 
 returns : tie.Need-returns
-returns c = last-stored (c .before .before .before .before .before .before .before .before .before .before .before .before .before .before .before .before .before .args .outcome) (c .before .before .before .before .before .before .before .before .before .before .before .before .before .before .before .before .before .args .ways) (c .before .before .before .before .before .before .before .before .before .before .before .before .before .before .before .before .before .args .clashes) (c .before .before .before .before .before .before .before .before .before .before .before .before .before .before .before .before .before .args .at) (c .before .before .before .before .before .before .before .before .before .before .before .before .before .before .before .before .before .args .output .now) _ _ _ _ (c .before .before .before .before .before .before .before .before .before .before .before .before .before .before .put-byte .ensures) (c .before .before .before .before .before .before .before .before .before .before .put-byte2 .ensures) (c .before .before .before .before .before .before .put-count .ensures) (c .before .before .put-count2 .ensures)
+returns c =
+    let a = c .before .before .before .before .before .before .before .before .before .before .before .before .before .before .before .before .before .args in
+    let first = c .before .before .before .before .before .before .before .before .before .before .before .before .before .before in
+    let second = c .before .before .before .before .before .before .before .before .before .before in
+    last-stored (a .outcome) (a .ways) (a .clashes) (a .at) (a .output .now) _ _ _ _ (first .put-byte .ensures) (second .put-byte2 .ensures)
+    (c .before .before .before .before .before .before .put-count .ensures) (c .before .before .put-count2 .ensures)
 
 pub put-last-spec : {M : Type 1} → statement M
 put-last-spec =

@@ -25,7 +25,9 @@ same-length : tie.Need-same-length
 same-length c = simp length-set (c .before .before .put-set .kept .0 ∙ c .before .before .before .before .before .before .put-byte .kept .0)
 
 returns : tie.Need-returns
-returns c = line-stored (c .before .before .before .before .before .before .before .before .before .args .kind) (c .before .before .before .before .before .before .before .before .before .args .set) (c .before .before .before .before .before .before .before .before .before .args .at) (c .before .before .before .before .before .before .before .before .before .args .output .now) _ _ (c .before .before .before .before .before .before .put-byte .ensures) (c .before .before .put-set .ensures)
+returns c =
+    let a = c .before .before .before .before .before .before .before .before .before .args in
+    line-stored (a .kind) (a .set) (a .at) (a .output .now) _ _ (c .before .before .before .before .before .before .put-byte .ensures) (c .before .before .put-set .ensures)
 
 pub put-line-spec : {M : Type 1} → statement M
 put-line-spec =

@@ -1,7 +1,6 @@
 -- `put_lines` meets its contract: the lines of the sets from `i` on are still to be stored from `to` on.
 use mathlib.Core.Path.{_≡_, refl, sym, ap, _∙_}
-use mathlib.Core.List.{List}
-use Prim.Native.Nat.{ℕ, _+_, _-_}
+use Prim.Native.Nat.{_+_, _-_}
 use native.Mathlib.Omega.{arith}
 use lib.ListN.{length, drop}
 use lib.Seq.{sets}
@@ -27,10 +26,18 @@ shared-slice-read-put-line : tie.Need-shared-slice-read-put-line Inv-loop μ-loo
 shared-slice-read-put-line c = c .before .before .loop-test .taken
 
 put-line-requires : tie.Need-put-line-requires Inv-loop μ-loop
-put-line-requires c κs = omega (arith, lines-length (c .before .before .before .before .before .before .args .kind) (c .before .before .before .before .before .before .args .list .now), line-takes (c .before .before .before .before .before .before .args .list .now) (c .before .before .before .loop .i) (c .before .before .before .before .before .before .args .kind) (c .before .before .loop-test .taken), c .before .before .before .loop .inv .0, c .before .before .before .loop .inv .1, c .before .before .before .before .before .before .pre)
+put-line-requires c κs =
+    let s = c .before .before .before .before .before .before in
+    let a = s .args in
+    let at = c .before .before .before .loop in
+    omega (arith, lines-length (a .kind) (a .list .now), line-takes (a .list .now) (at .i) (a .kind) (c .before .before .loop-test .taken), at .inv .0, at .inv .1, s .pre)
 
 add-to : tie.Need-add-to Inv-loop μ-loop
-add-to c = omega (arith, lines-length (c .before .before .before .before .before .before .before .before .before .args .kind) (c .before .before .before .before .before .before .before .before .before .args .list .now), line-takes (c .before .before .before .before .before .before .before .before .before .args .list .now) (c .before .before .before .before .before .before .loop .i) (c .before .before .before .before .before .before .before .before .before .args .kind) (c .before .before .before .before .before .loop-test .taken), c .before .before .before .before .before .before .loop .inv .0, c .before .before .before .before .before .before .before .before .before .pre, c .before .before .before .before .before .before .before .before .before .good)
+add-to c =
+    let s = c .before .before .before .before .before .before .before .before .before in
+    let a = s .args in
+    let at = c .before .before .before .before .before .before .loop in
+    omega (arith, lines-length (a .kind) (a .list .now), line-takes (a .list .now) (at .i) (a .kind) (c .before .before .before .before .before .loop-test .taken), at .inv .0, s .pre, s .good)
 
 add-i : tie.Need-add-i Inv-loop μ-loop
 add-i c = omega (arith, c .before .before .before .before .before .loop-test .taken, c .before .before .before .before .before .before .before .before .before .good)
@@ -39,13 +46,25 @@ loop-less : tie.Need-loop-less Inv-loop μ-loop
 loop-less c = omega (arith, c .before .before .before .before .before .loop-test .taken)
 
 loop-again : tie.Need-loop-again Inv-loop μ-loop
-loop-again c = (omega (arith, line-takes (c .before .before .before .before .before .before .before .before .before .args .list .now) (c .before .before .before .before .before .before .loop .i) (c .before .before .before .before .before .before .before .before .before .args .kind) (c .before .before .before .before .before .loop-test .taken), c .before .before .before .before .before .before .loop .inv .0), c .before .before .put-line .kept .0 ∙ c .before .before .before .before .before .before .loop .inv .1, one-stored (c .before .before .before .before .before .before .before .before .before .args .list .now) (c .before .before .before .before .before .before .loop .i) (c .before .before .before .before .before .before .before .before .before .args .kind) (c .before .before .before .before .before .loop-test .taken) _ _ (c .before .before .before .before .before .before .loop .to) (c .before .before .put-line .ensures) ∙ c .before .before .before .before .before .before .loop .inv .2)
+loop-again c =
+    let a = c .before .before .before .before .before .before .before .before .before .args in
+    let at = c .before .before .before .before .before .before .loop in
+    let more = c .before .before .before .before .before .loop-test .taken in
+    let put = c .before .before .put-line in (
+      omega (arith, line-takes (a .list .now) (at .i) (a .kind) more, at .inv .0),
+      put .kept .0 ∙ at .inv .1,
+      one-stored (a .list .now) (at .i) (a .kind) more _ _ (at .to) (put .ensures) ∙ at .inv .2,
+    )
 
 same-length : tie.Need-same-length Inv-loop μ-loop
 same-length c = c .before .loop .inv .1
 
 returns : tie.Need-returns Inv-loop μ-loop
-returns c = (omega (arith, lines-length (c .before .before .before .before .args .kind) (c .before .before .before .before .args .list .now), c .before .loop .inv .0, ap length (none-left (c .before .before .before .before .args .list .now) (c .before .loop .i) (c .before .before .before .before .args .kind) (c .loop-test .left))), ap (λ (l : List ℕ). sets (c .before .loop .output) (c .before .loop .to) l) (sym (none-left (c .before .before .before .before .args .list .now) (c .before .loop .i) (c .before .before .before .before .args .kind) (c .loop-test .left))) ∙ c .before .loop .inv .2)
+returns c =
+    let a = c .before .before .before .before .args in
+    let at = c .before .loop in
+    let none = none-left (a .list .now) (at .i) (a .kind) (c .loop-test .left) in
+    (omega (arith, lines-length (a .kind) (a .list .now), at .inv .0, ap length none), ap (sets (at .output) (at .to)) (sym none) ∙ at .inv .2)
 
 pub put-lines-spec : {M : Type 1} → statement M
 put-lines-spec =
