@@ -1,21 +1,22 @@
 -- Where the wrong searches go astray.
 use mathlib.Core.Path.{_≡_, refl, subst}
-use mathlib.Core.Logic.{_⊎_, inl, inr, ⊎-elim}
+use mathlib.Core.Logic.{_⊎_, inl, inr, ⊎-elim, _≢_}
 use mathlib.Core.List.{List, [], _∷_}
-use Prim.Native.Nat.{ℕ, _<_}
+use Prim.Native.Nat.{ℕ, zero, suc, _-_, _^_, _<_}
 use native.Mathlib.Decide.{ℕ-discrete}
 use native.Mathlib.Omega.{arith}
+use lib.Dec.{T}
 use lib.ListN.{length}
 use Rattle.sets.specs.Sets.{Share}
 use Rattle.sets.specs.Lists.{Among, Exactly}
 use Rattle.numbers.proofs.Deciding.{stable}
-use Rattle.sets.proofs.Digits.{none-share, none-within}
-use Rattle.sets.proofs.Tests.{within-iff, listed-iff, lists-exactly}
+use Rattle.sets.proofs.Digits.{in-below, none-share, none-within}
+use Rattle.sets.proofs.Tests.{listed-iff, lists-exactly}
 use Rattle.setups.specs.Setups.{Setup, setup, Together}
 use Rattle.setups.specs.Tests.{without}
 use Rattle.setups.proofs.Tests.{together-iff, without-iff}
-use Rattle.table.specs.Rows.{neg}
-use Rattle.table.proofs.Table.{table}
+use Rattle.table.specs.Rows.{neg, Row}
+use Rattle.table.proofs.Table.{row, table}
 use Rattle.refuted.specs.Enumeration.{OracleAnswers, Run, finds, returns, outputs, Enumerates, Candidate, FoundOnly, gives, stops, WayDown}
 
 -- ---- Algorithm 1 of document 000 loses P2, whatever its oracle answers: the first model has the one selector at 0, its block leaves no
@@ -85,16 +86,31 @@ example-found-only =
     (gives (candidates .exact 2 .0 (inr (inl refl))) (listed-iff 2 (3 ∷ []) .1)
     (gives (candidates .exact 1 .0 (inl refl)) (listed-iff 1 (2 ∷ 3 ∷ []) .1) (stops (λ S. candidates .exact S .1))))
 
--- ---- the way down from both settings of P7 has more sets than there are ways out
+-- ---- the way down has more sets than there are ways out
 
-abbrev P7 : Setup
-P7 = setup 1 [] (0 ∷ 1 ∷ 0 ∷ [])
+-- soft (1), (2): both can be had
+abbrev both : Setup
+both = setup 2 [] (1 ∷ 0 ∷ 2 ∷ 0 ∷ [])
 
-pub way-down-longer : (down : List ℕ) → WayDown P7 (3 ∷ down) → 1 < length (3 ∷ down)
-way-down-longer [] way = absurd (listed-iff 3 (1 ∷ []) .1 (table .p7 .ways-out .exact 3 .1 way))
-way-down-longer (S ∷ down) way = omega arith
+pub both-row : Row both (0 ∷ []) []
+both-row = row tt tt
+
+-- one setting after the other, from both to none
+pub way-down-longer : (down : List ℕ) → WayDown both (3 ∷ down) → 2 < length (3 ∷ down)
+way-down-longer [] way = absurd (listed-iff 3 (0 ∷ []) .1 (both-row .ways-out .exact 3 .1 way))
+way-down-longer (S ∷ []) (candidate, (i, held, less), way) =
+    absurd (one i (in-below 2 (omega arith) held) less (⊎-elim (λ e. e) (λ h. absurd h) (both-row .ways-out .exact S .1 way)))
+  where
+    one : (i : ℕ) → i < 2 → S ≡ 3 - 2 ^ i → S ≢ 0
+    one zero l e z = omega arith
+    one (suc zero) l e z = omega arith
+    one (suc (suc i)) l e z = omega arith
+way-down-longer (S ∷ R ∷ down) way = omega arith
 
 -- such a way there is
-example-way-down : WayDown P7 (3 ∷ 1 ∷ [])
+example-way-down : WayDown both (3 ∷ 1 ∷ 0 ∷ [])
 example-way-down =
-    (record { below = omega arith; meets = without-iff P7 3 .0 tt }, within-iff 2 1 3 (omega arith) .0 tt, (λ e. omega arith), table .p7 .ways-out .exact 1 .0 (inl refl))
+    (candidate 3 (omega arith) tt, (1, refl, refl), (candidate 1 (omega arith) tt, (0, refl, refl), both-row .ways-out .exact 0 .0 (inl refl)))
+  where
+    candidate : (S : ℕ) → S < 4 → T (without both S) → Candidate both S
+    candidate S l t = record { below = l; meets = without-iff both S .0 t }

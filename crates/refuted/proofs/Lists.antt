@@ -16,7 +16,7 @@ use Rattle.list.proofs.Promise.{list-result-only, lists-exist}
 use Rattle.refuted.specs.Programs.{Program, RefusesAll, WritesNothing}
 use Rattle.refuted.specs.Lists.{KeepsList, AnswersP4, VariesFirst, MakesUpCount, ListsEnumerated, BlocksFoundOnly, KeepsCandidates, ListsFewest, GivesUpUnset, DropsEqual}
 use Rattle.refuted.proofs.Programs.{room, work, first-alike, Gives, at, not-refusing, not-silent}
-use Rattle.refuted.proofs.Enumeration.{enumeration-loses, found-only-larger, way-down-longer}
+use Rattle.refuted.proofs.Enumeration.{enumeration-loses, found-only-larger, both-row, way-down-longer}
 
 -- some program keeps the promise
 pub list-kept : (P : Program Setup) × KeepsList P
@@ -49,17 +49,17 @@ pub list-not-P4 : (P : Program Setup) → AnswersP4 P → ¬ KeepsList P
 list-not-P4 P wrong keeps = omega (arith, first-alike (at (on keeps (table .p2) refl) wrong refl))
 
 -- P6 and P7 differ only in what the settings are, and begin alike, with 1; P6 goes on
-pub list-not-varied : (more : ℕ → List ℕ → ℕ → ℕ → ℕ → List ℕ) (P : Program Setup) → VariesFirst more P → ¬ KeepsList P
+pub list-not-varied : (more : ℕ → List ℕ → ℕ → List ℕ → List ℕ → ℕ → List ℕ) (P : Program Setup) → VariesFirst more P → ¬ KeepsList P
 list-not-varied more P wrong keeps =
     let two = next (at (on keeps (table .p6) refl) wrong refl) in
     let one = next (at (on keeps (table .p7) refl) wrong refl) in
     omega (arith, ap length (two ∙ sym one))
   where
-    next : {S : ℕ} {others : List ℕ} → ((first : ℕ) × (S ∷ others ≡ first ∷ more 1 [] 2 3 first)) → others ≡ more 1 [] 2 3 S
+    next : {S : ℕ} {others : List ℕ} → ((first : ℕ) × (S ∷ others ≡ first ∷ more 1 [] 2 room work first)) → others ≡ more 1 [] 2 room work S
     next {S} (first, e) = let f : S ≡ first = first-alike e in ap (drop 1) e ∙ rw f
 
 -- one has two ways out, and the other one
-pub list-not-made-up : (made : ℕ → List ℕ → ℕ → ℕ → ℕ) (P : Program Setup) → MakesUpCount made P → ¬ KeepsList P
+pub list-not-made-up : (made : ℕ → List ℕ → ℕ → List ℕ → List ℕ → ℕ) (P : Program Setup) → MakesUpCount made P → ¬ KeepsList P
 list-not-made-up made P wrong keeps = omega (arith, at (on keeps (table .p6) refl) wrong refl, at (on keeps (table .p7) refl) wrong refl)
 
 pub list-not-enumerated : (P : Program Setup) → ListsEnumerated P → ¬ KeepsList P
@@ -73,10 +73,10 @@ list-not-found-only P wrong keeps =
     let given = at (on keeps (table .p6) refl) wrong refl in
     listed-iff 3 (1 ∷ 2 ∷ []) .1 (given .2 3 .1 (found-only-larger (given .1)))
 
--- P7 in room 1: the one way out fits, and no way down to it
+-- where both settings can be had, in room 1: the one way out fits, and no way down to it
 pub list-not-candidates : (P : Program Setup) → KeepsCandidates P → ¬ KeepsList P
 list-not-candidates P wrong keeps =
-    let kept = at (lent keeps (table .p7) (7 ∷ []) (6 ∷ 6 ∷ []) refl) wrong refl in
+    let kept = at (lent keeps both-row (7 ∷ []) (6 ∷ 6 ∷ []) refl) wrong refl in
     omega (arith, kept .2, way-down-longer (kept .0) (kept .1))
 
 pub list-not-fewest : (P : Program Setup) → ListsFewest P → ¬ KeepsList P

@@ -3,7 +3,7 @@ use mathlib.Core.Path.{_≡_, sym, ap, _∙_, subst}
 use mathlib.Core.Logic.{_≢_}
 use mathlib.Core.List.{List, [], _∷_}
 use Prim.Native.Nat.{ℕ}
-use lib.ListN.{length, getD}
+use lib.ListN.{getD}
 use Rattle.setups.specs.Refusals.{finished}
 use Rattle.setups.specs.GivenOut.{ListResult, listedSets}
 use Rattle.setups.proofs.Refusals.{refused-number}
@@ -26,9 +26,9 @@ pub record Gives {Input : Type 0} (P : Program Input) (input : Input) (list scra
 
 module _ {Input : Type 0} {P : Program Input} {input : Input} {list scratch : List ℕ} {r : ListResult} (there : Gives P input list scratch r) where
   -- what is always claimed holds there
-  pub at : {claim : Claim Input} → Always claim P → r .number ≡ finished → claim input (length list) (r .filled) (listedSets r)
+  pub at : {claim : Claim Input} → Always claim P → r .number ≡ finished → claim input list scratch (r .filled) (listedSets r)
   at {claim} always =
-      subst (λ (s : ListResult). s .number ≡ finished → claim input (length list) (s .filled) (listedSets s)) (there .so) (always .holds input list scratch)
+      subst (λ (s : ListResult). s .number ≡ finished → claim input list scratch (s .filled) (listedSets s)) (there .so) (always .holds input list scratch)
 
   -- a program that finishes there doesn't refuse everything
   pub not-refusing : r .number ≡ finished → ¬ RefusesAll Input P
@@ -38,4 +38,4 @@ module _ {Input : Type 0} {P : Program Input} {input : Input} {list scratch : Li
 
   -- and one that writes there writes something
   pub not-silent : r .list ≢ list → ¬ WritesNothing Input P
-  not-silent writes wrong = writes (sym (ap (λ (s : ListResult). s .list) (there .so)) ∙ wrong input list scratch .0)
+  not-silent writes wrong = writes (sym (ap (λ (s : ListResult). s .list) (there .so)) ∙ wrong input list scratch)

@@ -58,11 +58,11 @@ pub turn-not-copied-back : (P : Program Given) → CopiesBack P → ¬ KeepsTurn
 turn-not-copied-back P wrong keeps = omega (arith, first-alike (at (on-clashes keeps (table .p4) refl) wrong refl _ refl (table .p4 .clash)))
 
 -- over two settings P5's way out 3 turns into 1, 2 and P7's way out 1 into 1
-pub turn-not-made-up : (made : ℕ → ℕ → ℕ → ℕ) (P : Program Given) → MakesUpTurnCount made P → ¬ KeepsTurn P
+pub turn-not-made-up : (made : ℕ → ℕ → List ℕ → List ℕ → ℕ) (P : Program Given) → MakesUpTurnCount made P → ¬ KeepsTurn P
 turn-not-made-up made P wrong keeps = omega (arith, at (on-ways keeps (table .p5) refl) wrong refl, at (on-ways keeps (table .p7) refl) wrong refl)
 
 -- over two settings P6's clash 3 turns into 1, 2 and P7's clash 1 into 1
-pub turn-not-skipped : (made : ℕ → ℕ → ℕ → List ℕ) (P : Program Given) → SkipsSecond made P → ¬ KeepsTurn P
+pub turn-not-skipped : (made : ℕ → ℕ → List ℕ → List ℕ → List ℕ) (P : Program Given) → SkipsSecond made P → ¬ KeepsTurn P
 turn-not-skipped made P wrong keeps =
     let two = at (on-clashes keeps (table .p6) refl) wrong refl _ refl (table .p6 .clash) in
     let one = at (on-clashes keeps (table .p7) refl) wrong refl _ refl (table .p7 .clash) in

@@ -4,7 +4,7 @@ use mathlib.Core.Path.{_≡_, refl}
 use mathlib.Core.Logic.{_≢_}
 use mathlib.Core.List.{List, [], _∷_}
 use Prim.Native.Nat.{ℕ, _-_, _^_, _<_}
-use Rattle.sets.specs.Sets.{Within, Share}
+use Rattle.sets.specs.Sets.{In, Within, Share}
 use Rattle.sets.specs.Lists.{Among}
 use Rattle.setups.specs.Setups.{Setup, setup, count, Together, Without, WayOut}
 
@@ -55,8 +55,9 @@ pub data FoundOnly (g : Setup) : List ℕ → List ℕ → Type 0 where
   gives : {S : ℕ} {blocks out : List ℕ} → Candidate g S → ¬ Among S blocks → FoundOnly g (S ∷ blocks) out → FoundOnly g blocks (S ∷ out)
   stops : {blocks : List ℕ} → ((S : ℕ) → Candidate g S → Among S blocks) → FoundOnly g blocks []
 
--- a way down: candidates, each a proper subset of the one before it, and the last a way out. P7: 3, 1 (`example-way-down`)
+-- a way down: candidates, each the one before it without one setting, and the last a way out. With soft (1), (2): 3, 1, 0
+-- (`example-way-down`)
 abbrev pub WayDown : Setup → List ℕ → Type 0
 WayDown g [] = ⊥
 WayDown g (S ∷ []) = WayOut g S
-WayDown g (S ∷ R ∷ down) = Candidate g S × Within R S × (R ≢ S) × WayDown g (R ∷ down)
+WayDown g (S ∷ R ∷ down) = Candidate g S × ((i : ℕ) × In i S × (R ≡ S - 2 ^ i)) × WayDown g (R ∷ down)

@@ -4,7 +4,6 @@ use mathlib.Core.Bool.{cond}
 use mathlib.Core.List.{List, [], _∷_}
 use Prim.Native.Nat.{ℕ, zero, suc, _+_, min}
 use lib.Dec.{eqb}
-use lib.ListN.{length}
 use Rattle.sets.specs.Sets.{digit}
 use Rattle.setups.specs.declared.Refusal.{Refusal}
 use Rattle.setups.specs.Refusals.{numberOf, finished}
@@ -18,19 +17,18 @@ Program Input = Input → List ℕ → List ℕ → ListResult
 abbrev pub RefusesAll : (Input : Type 0) → Program Input → Type 0
 RefusesAll Input P = (input : Input) (list scratch : List ℕ) → (r : Refusal) × (P input list scratch .number ≡ numberOf r)
 
--- it writes nothing
+-- it writes no list, whatever it does to the scratch
 abbrev pub WritesNothing : (Input : Type 0) → Program Input → Type 0
-WritesNothing Input P =
-    (input : Input) (list scratch : List ℕ) → (P input list scratch .list ≡ list) × (P input list scratch .scratch ≡ scratch)
+WritesNothing Input P = (input : Input) (list scratch : List ℕ) → P input list scratch .list ≡ list
 
--- what is said of an answer Listed: the input, the room, the number of places filled and the sets that they hold
+-- what is said of an answer Listed: the input, the list buffer and the scratch before, the number of places filled and the sets that they hold
 abbrev pub Claim : Type 0 → Type 1
-Claim Input = (input : Input) (room filled : ℕ) (listed : List ℕ) → Type 0
+Claim Input = (input : Input) (list scratch : List ℕ) (filled : ℕ) (listed : List ℕ) → Type 0
 
 -- the claim holds of every answer Listed, whatever else the program refuses or answers
 pub record Always {Input : Type 0} (claim : Claim Input) (P : Program Input) : Type 0 where
   pub holds : (input : Input) (list scratch : List ℕ)
-      → (let r = P input list scratch in r .number ≡ finished → claim input (length list) (r .filled) (listedSets r))
+      → (let r = P input list scratch in r .number ≡ finished → claim input list scratch (r .filled) (listedSets r))
 
 -- how many of the first n settings a set has, the fewest that a set of the list has, and the sets of the list that have so many
 abbrev pub sizeOf : ℕ → ℕ → ℕ

@@ -23,24 +23,25 @@ KeepsTurn P = (given : Given) (list scratch : List ℕ) → TurnGives (given .se
 
 -- it copies its input
 abbrev pub Copies : Program Given → Type 0
-Copies = Always (λ given room filled listed. listed ≡ given .sets)
+Copies = Always (λ given list scratch filled listed. listed ≡ given .sets)
 
 -- it copies only on the second turn: given the clashes of a setup, it lists these
 abbrev pub CopiesBack : Program Given → Type 0
-CopiesBack = Always (λ given room filled listed. (g : Setup) → count g ≡ given .settings → Exactly (Clash g) (given .sets) → listed ≡ given .sets)
+CopiesBack = Always (λ given list scratch filled listed. (g : Setup) → count g ≡ given .settings → Exactly (Clash g) (given .sets) → listed ≡ given .sets)
 
--- its list count is made up, from everything but what the given sets are: the settings count, how many sets are given, and the room
-abbrev pub MakesUpTurnCount : (ℕ → ℕ → ℕ → ℕ) → Program Given → Type 0
-MakesUpTurnCount made = Always (λ given room filled listed. filled ≡ made (given .settings) (length (given .sets)) room)
+-- its list count is made up, from everything but what the given sets are: the settings count, how many sets are given, the list buffer and
+-- the scratch
+abbrev pub MakesUpTurnCount : (ℕ → ℕ → List ℕ → List ℕ → ℕ) → Program Given → Type 0
+MakesUpTurnCount made = Always (λ given list scratch filled listed. filled ≡ made (given .settings) (length (given .sets)) list scratch)
 
 -- it skips the second turn's work: given the clashes of a setup, what it lists is made from everything but what the clashes are
-abbrev pub SkipsSecond : (ℕ → ℕ → ℕ → List ℕ) → Program Given → Type 0
+abbrev pub SkipsSecond : (ℕ → ℕ → List ℕ → List ℕ → List ℕ) → Program Given → Type 0
 SkipsSecond made =
-    Always (λ given room filled listed.
-    (g : Setup) → count g ≡ given .settings → Exactly (Clash g) (given .sets) → listed ≡ made (given .settings) (length (given .sets)) room)
+    Always (λ given list scratch filled listed.
+    (g : Setup) → count g ≡ given .settings → Exactly (Clash g) (given .sets) → listed ≡ made (given .settings) (length (given .sets)) list scratch)
 
 -- it lists only the sets with the fewest settings
 abbrev pub TurnsFewest : Program Given → Type 0
 TurnsFewest =
-    Always (λ given room filled listed.
+    Always (λ given list scratch filled listed.
     (turned : List ℕ) → Turned (given .settings) (given .sets) turned → listed ≡ fewest (given .settings) turned)

@@ -34,7 +34,8 @@ module _ (g : Setup) (ways clashes : List ℕ) (t : T (exact g ways clashes)) wh
       lists-exactly (2 ^ count g) (Clash g) (clash g) clashes (λ S h. h .below) (λ S l. clash-iff g S)
       (and-right (lists (2 ^ count g) (wayOut g) ways) (lists (2 ^ count g) (clash g) clashes) t)
 
-row : {g : Setup} {ways clashes : List ℕ} → T (together g 0) → T (exact g ways clashes) → Row g ways clashes
+-- a row by its tests
+pub row : {g : Setup} {ways clashes : List ℕ} → T (together g 0) → T (exact g ways clashes) → Row g ways clashes
 row {g} {ways} {clashes} met t =
     record { met = together-iff g 0 .0 met; ways-out = ways-exactly g ways clashes t; clash = clashes-exactly g ways clashes t }
 
