@@ -10,7 +10,7 @@ use setups::{
 };
 
 // Passed, or refused.
-#[derive(Drop)]
+#[derive(Clone, Copy)]
 pub enum Admission {
     Passed,
     Refused(Refusal),

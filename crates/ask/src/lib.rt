@@ -1,5 +1,7 @@
 // Ask: is there a model of some clauses and assumed literals (document 01, "One ask")? The answer is the first model in order, with
 // the visit count of the whole search; or that there is none; or a refusal, which writes nothing.
+#![tactic(auto)]
+
 mod checks;
 
 ghost use Rattle.std.specs.Prelude.{◌≡◌, ◌≤◌, length, take};
@@ -15,7 +17,7 @@ use search::{Outcome, visit};
 use setups::Refusal;
 
 // Model and None carry the visits of the whole search.
-#[derive(Drop)]
+#[derive(Clone, Copy)]
 pub enum Asked {
     Model(u32),
     None(u32),

@@ -1,5 +1,7 @@
 // Answers calls of the jobs that are read from standard input, one call a line, so that anyone can hold the library to another
 // implementation. A line that is no such call, the empty line too, is answered by `?` alone.
+#![tactic(auto)]
+
 mod answers;
 mod ask_call;
 mod fields;

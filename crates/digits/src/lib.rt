@@ -1,4 +1,6 @@
 // Bytes as pairs of hexadecimal digits: read from a text, and written at a place of a lent one.
+#![tactic(auto)]
+
 ghost use Rattle.std.specs.Prelude.{◌≡◌, ◌+◌, ◌<◌, length, get_or, [], ◌∷◌};
 ghost use Rattle.std.proofs.lemmas.List.Edits.{sets};
 ghost use Rattle.digits.specs.Digits.{is_digit, digit_value, digit_of, byte_of, digits, bytes_of};

@@ -12,7 +12,7 @@ use sets::Set;
 use setups::Seen;
 
 // The values so far: whether they contradict a rule, and whether a free variable got a value.
-#[derive(Drop)]
+#[derive(Clone, Copy)]
 pub struct Progress {
     pub fails: bool,
     pub moved: bool,

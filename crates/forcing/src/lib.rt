@@ -1,4 +1,6 @@
 // Values of which some are free: what the clauses force under them, and how clauses and settings stand.
+#![tactic(auto)]
+
 mod forcing;
 mod selectors;
 mod standing;

@@ -7,7 +7,7 @@ use numbers::{Selector, setting_of};
 use sets::{SETTINGS_MOST, Set, has, with};
 
 // Which clauses of a buffer have to be true: every one, or those of the settings of a set.
-#[derive(Drop)]
+#[derive(Clone, Copy)]
 pub enum Owed {
     EveryClause,
     OfSettings(Set),

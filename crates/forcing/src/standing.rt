@@ -9,14 +9,14 @@ use literals::{FREE, Values, slot, wish};
 use sets::{EMPTY, Set};
 
 // The settings that are true already, and those that are true or may still become so.
-#[derive(Drop)]
+#[derive(Clone, Copy)]
 pub struct Standing {
     pub sure: Set,
     pub possible: Set,
 }
 
 // A clause so far: it has a true literal; it has one that is true or free.
-#[derive(Drop)]
+#[derive(Clone, Copy)]
 pub struct Chance {
     pub sure: bool,
     pub possible: bool,

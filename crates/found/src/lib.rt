@@ -1,4 +1,6 @@
 // Found sets: one setting of each has to be true.
+#![tactic(auto)]
+
 ghost use Rattle.std.specs.Prelude.{◌≡◌, true, ◌↔◌};
 ghost use Rattle.sets.specs.Tests.{has};
 ghost use Rattle.found.specs.FoundSets.{Fit, KeepsLast, Narrows};
@@ -6,7 +8,7 @@ ghost use Rattle.found.specs.FoundSets.{Fit, KeepsLast, Narrows};
 use sets::{EMPTY, Set, at_most_one, meets, within};
 
 // The kept settings, with those that the found sets leave no choice about; or some found set has none left.
-#[derive(Drop)]
+#[derive(Clone, Copy)]
 pub struct Narrowed {
     pub fails: bool,
     pub kept: Set,

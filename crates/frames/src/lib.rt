@@ -1,4 +1,6 @@
 // One frame of a text, a line of hexadecimal: what it is, and the reader that finds it.
+#![tactic(auto)]
+
 mod frames;
 mod reader;
 

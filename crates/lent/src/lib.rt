@@ -1,4 +1,6 @@
 // Lists of sets that a caller gives or lends: whether one may be taken, copying one out, setting one to zero.
+#![tactic(auto)]
+
 ghost use Rattle.std.specs.Prelude.{◌≡◌, true, ◌↔◌, ◌++◌, ◌≤◌, length, take, drop, replicate};
 ghost use Rattle.sets.specs.Tests.{fine as Passes};
 ghost use Rattle.lent.specs.Leads.{Leads};

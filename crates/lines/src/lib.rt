@@ -1,4 +1,6 @@
 // The lines that are put out, stored in the output one after the other (document 01, "The program's lines").
+#![tactic(auto)]
+
 ghost use Rattle.std.specs.Prelude.{◌≡◌, ◌+◌, ◌*◌, ◌≤◌, length};
 ghost use Rattle.std.proofs.lemmas.List.Edits.{sets};
 ghost use Rattle.digits.specs.Digits.{digits, bytes_of};

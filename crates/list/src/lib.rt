@@ -1,4 +1,6 @@
 // List: all ways out of a setup, by the walk over its settings. specs/ has what each function promises, proofs/ the way from the walk to the answer.
+#![tactic(auto)]
+
 mod checks;
 
 ghost use Rattle.std.specs.Prelude.{◌≡◌, ◌+◌, length};
@@ -14,7 +16,7 @@ use setups::{Judged, Refusal};
 use walk::{Entered, Node, enter, walk};
 
 // What List answers: how many ways out it has listed, that the hard clauses have no model, or why it can't.
-#[derive(Drop)]
+#[derive(Clone, Copy)]
 pub enum Listing {
     Listed(usize),
     Unmet,

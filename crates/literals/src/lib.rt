@@ -1,5 +1,7 @@
 // Values of the variables, and literals under them: where a literal's value stands, which value makes it true, and what it adds to a
 // clause so far.
+#![tactic(auto)]
+
 ghost use Rattle.std.specs.Prelude.{◌≡◌, ◌≤◌};
 ghost use Rattle.setups.specs.Limits.{variables_most};
 ghost use Rattle.setups.specs.Clauses;
@@ -16,7 +18,7 @@ pub type Values = [u8; VARIABLES_MOST];
 pub const FREE: u8 = 2;
 
 // Which variable is the lowest that is free.
-#[derive(Drop)]
+#[derive(Clone, Copy)]
 pub enum FirstFree {
     At(Variable),
     NoneFree,

@@ -1,4 +1,6 @@
 // Mark: how each setting fares over a list of sets (document 01, "Ways out and clashes" and "What comes back when it can't").
+#![tactic(auto)]
+
 ghost use Rattle.std.specs.Prelude.{◌≡◌, ◌-◌, ◌≤◌, ◌<◌, length};
 ghost use Rattle.sets.specs.Tests.{all};
 ghost use Rattle.sets.specs.Marks.{mark as markAt, marks as marksOf};
@@ -13,7 +15,7 @@ use sets::{SETTINGS_MOST, Set, has};
 use setups::{Refusal, SETS_MOST};
 
 // What Mark answers: it has marked so many settings, or refuses.
-#[derive(Drop)]
+#[derive(Clone, Copy)]
 pub enum Marking {
     Marked(u32),
     Refused(Refusal),

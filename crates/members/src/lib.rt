@@ -1,5 +1,7 @@
 // The members of the given list under the settings that Turn has taken: which taken setting hits a member alone, which members are left
 // unhit, and which settings they want (document 01: "the sets that share a setting with each member").
+#![tactic(auto)]
+
 ghost use Rattle.std.specs.Prelude.{◌≡◌, ◌⊎◌, ◌≢◌, ◌↔◌, ℕ};
 ghost use Rattle.sets.specs.Width.{settings_most};
 ghost use Rattle.sets.specs.Sets.{In, Share, only};
@@ -10,7 +12,7 @@ use sets::{EMPTY, Set, at_most_one, has, meets, size};
 
 // What the taken settings leave unhit: nothing; a member that no setting left hits either; or a member that wants one of these
 // settings left.
-#[derive(Drop)]
+#[derive(Clone, Copy)]
 pub enum Unhit {
     Nothing,
     Hopeless,

@@ -1,19 +1,21 @@
 // The three kinds of number that never stand for one another: a variable's, a setting's and a selector's.
 // Document 01, "Setups": "Setting numbers and variable numbers are counted separately; a selector's number is neither."
+#![tactic(auto)]
+
 ghost use Rattle.std.specs.Prelude.{◌≡◌, ◌+◌, ◌-◌, ◌%◌, ◌<◌};
 ghost use Rattle.numbers.specs.Numbers.{negated};
 ghost use Rattle.numbers.specs.Code.Places.{value_place};
 
 // A variable, counted from 1.
-#[derive(Drop)]
+#[derive(Clone, Copy)]
 pub struct Variable(pub u8);
 
 // A setting, counted from 1 in the order of the soft buffer.
-#[derive(Drop)]
+#[derive(Clone, Copy)]
 pub struct Setting(pub u32);
 
 // A setting's selector, counted from 0: the place of the setting's digit in a set.
-#[derive(Drop)]
+#[derive(Clone, Copy)]
 pub struct Selector(pub u32);
 
 // How many variables there are at the most, and so how many places for their values.

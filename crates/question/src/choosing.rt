@@ -8,7 +8,7 @@ use numbers::NEGATED;
 use sets::{EMPTY, SETTINGS_MOST, Set, meets, size};
 
 // The literal to try as true first, if there is one to try.
-#[derive(Drop)]
+#[derive(Clone, Copy)]
 pub enum Choice {
     Try(u8),
     NothingToTry,

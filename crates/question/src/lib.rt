@@ -1,4 +1,6 @@
 // The question under List: is there a model that meets what is asked, and which settings does it make true?
+#![tactic(auto)]
+
 mod choosing;
 mod seeking;
 
@@ -13,7 +15,7 @@ use sets::{Set, full};
 use setups::settings_count;
 
 // Yes, with the settings that a model makes true which meets what is asked; No, where no such model breaks every given-up setting.
-#[derive(Drop)]
+#[derive(Clone, Copy)]
 pub enum Reply {
     Yes(Set),
     No,

@@ -10,7 +10,7 @@ use literals::Values;
 use sets::{EMPTY, Set};
 
 // The values and kept settings after each rule was put to use once; whether that made a difference; how the settings stand then.
-#[derive(Drop)]
+#[derive(Clone, Copy)]
 pub struct Round {
     pub fails: bool,
     pub moved: bool,
@@ -20,7 +20,7 @@ pub struct Round {
 }
 
 // What a search ends with: it fails, or with these values, whatever the free ones become, what is asked is met.
-#[derive(Drop)]
+#[derive(Clone, Copy)]
 pub struct Sought {
     pub fails: bool,
     pub values: Values,

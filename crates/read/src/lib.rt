@@ -1,4 +1,6 @@
 // Read: two passes over the text, by the same walk. The whole text is judged before the first byte goes out.
+#![tactic(auto)]
+
 ghost use Rattle.std.specs.Prelude.{◌≡◌, ◌+◌, ◌*◌, ◌^◌, ◌<◌, ◌≤◌, length, drop};
 ghost use Rattle.std.proofs.lemmas.List.Edits.{sets};
 ghost use Rattle.frames.specs.Code.Found.{bytes_from, found_at};
@@ -17,7 +19,7 @@ pub const TEXT_MOST: usize = 32_768;
 const LITERALS_AT: usize = 2;
 
 // What a text says, in numbers: the variable count and how many bytes each buffer has to hold, or the first bad line, from 1.
-#[derive(Drop)]
+#[derive(Clone, Copy)]
 enum Checked {
     Good {
         count: u32,
@@ -31,7 +33,7 @@ enum Checked {
 
 // What a pass over the lines has come to: no line yet; or the header, with its variable count, then how many bytes the clauses
 // take in each buffer, and the number of the line to come.
-#[derive(Drop)]
+#[derive(Clone, Copy)]
 enum Stage {
     Fresh,
     Under {
@@ -43,7 +45,7 @@ enum Stage {
 }
 
 // After a line the pass goes on, or is over.
-#[derive(Drop)]
+#[derive(Clone, Copy)]
 enum Advance {
     On(Stage),
     Over(Checked),
@@ -119,7 +121,7 @@ fn copy_clause(text: &[u8], from: usize, count: usize, buffer: &mut [u8], place:
 }
 
 // What a pass over the text is for: the first checks it, the second fills the buffers.
-#[derive(Drop)]
+#[derive(Clone, Copy)]
 enum Pass {
     Check,
     Fill,
@@ -204,7 +206,7 @@ fn pass_over(text: &[u8], pass: Pass, hard: &mut [u8], soft: &mut [u8]) -> Check
 }
 
 // What Read answers: the variable count and how many places of each buffer it filled, or why it can't.
-#[derive(Drop)]
+#[derive(Clone, Copy)]
 pub enum Reading {
     Read {
         count: u32,

@@ -1,4 +1,6 @@
 // The program's function: from the frames to the lines that are put out (document 01, "The program's lines").
+#![tactic(auto)]
+
 ghost use Rattle.std.specs.Prelude.{[], ◌∷◌, ◌≤◌, length};
 ghost use Rattle.setups.specs.Limits.{sets_most};
 ghost use Rattle.setups.specs.Setups.{setup};

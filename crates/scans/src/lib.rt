@@ -1,4 +1,6 @@
 // One scan over all clauses: the first that is wholly false or forces a literal decides, and its number is carried.
+#![tactic(auto)]
+
 ghost use Rattle.std.specs.Prelude.{◌≡◌, ◌+◌, ◌^◌, ◌<◌};
 ghost use Rattle.setups.specs.Clauses.{clauses};
 ghost use Rattle.setups.specs.Ask.{units};
@@ -8,7 +10,7 @@ use literals::{Values, see, slot};
 use setups::Seen;
 
 // What a scan decides, and how many clauses it has passed before the one that decided.
-#[derive(Drop)]
+#[derive(Clone, Copy)]
 pub struct Scanned {
     pub seen: Seen,
     pub passed: usize,

@@ -15,6 +15,7 @@ example_crosses = record { below = omega arith; each = each } where
   each : (M : ℕ) → Among M (3 ∷ 6 ∷ []) → Share 2 M
   each M (inl three) = subst (Share 2) (sym three) (1, refl, refl)
   each M (inr (inl six)) = subst (Share 2) (sym six) (1, refl, refl)
+  each M (inr (inr none)) = elim none [ ]
 
 -- and no proper subset of it does
 abbrev pub SmallestCross : ℕ → (ℕ → Type 0) → ℕ → Type 0

@@ -1,5 +1,7 @@
 // Sets of settings as numbers, in code. Document 01, "Setups": "A set of settings is a 32-bit number: setting i adds 2^(i−1)."
 // specs/Sets.antt says what a set is, proofs/ has the laws; a wider set is another `Set` and another SETTINGS_MOST.
+#![tactic(auto)]
+
 ghost use Rattle.std.specs.Prelude.{◌≡◌, true, ◌↔◌, ◌-◌, ◌^◌, min};
 ghost use Rattle.std.specs.Int.Count.{ones};
 ghost use Rattle.sets.specs.Width.{settings_most};

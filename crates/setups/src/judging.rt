@@ -7,7 +7,7 @@ use crate::Refusal;
 use crate::checks::{first_bad_literal, long_place, settings_count, softs_place, tail_place};
 
 // Taken, with the number of settings, or why not.
-#[derive(Drop)]
+#[derive(Clone, Copy)]
 pub enum Judged {
     Taken(u32),
     Unfit(Refusal),

@@ -1,5 +1,7 @@
 // What the jobs share over setups: the limits, the refusals with their numbers, a clause so far, the byte checks, and what is judged by
 // them. specs/ has the definitions that every contract cites, proofs/ their laws.
+#![tactic(auto)]
+
 mod checks;
 mod judging;
 
@@ -25,7 +27,7 @@ pub const SETS_MOST: usize = 1024;
 pub const ASSUMED_MOST: usize = 64;
 
 // What comes back when it can't: document 01's names, in the order of their numbers.
-#[derive(Drop)]
+#[derive(Clone, Copy)]
 pub enum Refusal {
     Vars,
     Size,
@@ -70,7 +72,7 @@ pub fn refusal_number(refusal: Refusal) -> u8
 
 // A clause so far, under values of which some are free: no true and no free literal; one free literal and no true one; a true
 // literal or two free ones.
-#[derive(Drop)]
+#[derive(Clone, Copy)]
 pub enum Seen {
     AllFalse,
     OneFree(u8),

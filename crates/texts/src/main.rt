@@ -1,6 +1,8 @@
 // Puts the texts on standard input through `resolve`, one after the other, as `waysout` does with one, so that anyone can hold what it
 // does to another implementation. A byte 00, which no frames are written with, ends each text; the end of the input ends the last one
 // too. The answers need nothing between them: each ends in its line 60.
+#![tactic(auto)]
+
 use bytes::scan::find;
 use libc::{STDIN_FILENO, STDOUT_FILENO};
 use resolve::{OUTPUT_MOST, resolve};

@@ -1,4 +1,6 @@
 // Turn: from ways out to clashes and back (document 01, "Ways out and clashes" and "What comes back when it can't").
+#![tactic(auto)]
+
 ghost use Rattle.std.specs.Prelude.{◌≡◌, ◌++◌, ◌+◌, ◌≤◌, ◌<◌, length, take, drop};
 ghost use Rattle.setups.specs.Limits.{settings_most};
 ghost use Rattle.turn.specs.Code.Branches.{Branch, TurnsOn};
@@ -12,7 +14,7 @@ use sets::{EMPTY, SETTINGS_MOST, Set, full, with, without};
 use setups::{Refusal, SETS_MOST};
 
 // What Turn answers: it has listed so many sets, or refuses.
-#[derive(Drop)]
+#[derive(Clone, Copy)]
 pub enum Turning {
     Listed(usize),
     Refused(Refusal),

@@ -1,4 +1,6 @@
 // The walk over the settings, from the highest down: keep before give up, so that the ways out come rising, with nothing to sort.
+#![tactic(auto)]
+
 ghost use Rattle.std.specs.Prelude.{◌≡◌, ◌+◌, ◌-◌, ◌^◌, ◌<◌, length, take, set};
 ghost use Rattle.setups.specs.Setups.{setup};
 ghost use Rattle.setups.specs.Code.Taken.{Taken};
@@ -10,7 +12,7 @@ use sets::{Set, has, with};
 
 // A node of the walk: the settings above the first `left` are decided, those of `kept` kept and those of `given` given up. At a live
 // node the witness is what some model makes true that meets what the node asks.
-#[derive(Drop)]
+#[derive(Clone, Copy)]
 pub struct Node {
     pub left: u32,
     pub given: Set,
@@ -19,7 +21,7 @@ pub struct Node {
 }
 
 // A node before it is entered: live with its witness, or without a way out in its branch.
-#[derive(Drop)]
+#[derive(Clone, Copy)]
 pub enum Entered {
     Live(Node),
     Dead,

@@ -1,4 +1,6 @@
 // Frames on standard input, lines on standard output (document 01, "The program's lines"). All that is decided is decided by `resolve`.
+#![tactic(auto)]
+
 use libc::{STDIN_FILENO, STDOUT_FILENO};
 use read::TEXT_MOST;
 use resolve::{OUTPUT_MOST, resolve};

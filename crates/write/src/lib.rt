@@ -1,4 +1,6 @@
 // Write: the setup is judged and its text measured before the first byte goes out.
+#![tactic(auto)]
+
 ghost use Rattle.std.specs.Prelude.{◌≡◌, true, ◌∷◌, ℕ, ◌+◌, ◌*◌, ◌<◌, ◌≤◌, length};
 ghost use Rattle.std.proofs.lemmas.List.Edits.{sets};
 ghost use Rattle.setups.specs.Limits.{variables_most, hard_bytes_most, soft_bytes_most};
@@ -91,7 +93,7 @@ fn judge_setup(count: u32, hard: &[u8], soft: &[u8]) -> Judged
 }
 
 // What Write answers: how many places of the text buffer it filled, or why it can't.
-#[derive(Drop)]
+#[derive(Clone, Copy)]
 pub enum Writing {
     Written(usize),
     Refused(Refusal),

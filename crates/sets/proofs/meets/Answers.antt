@@ -3,16 +3,12 @@ use lib.Bits.{bit_and}
 use lib.Dec.{eqb}
 use borrow.Author.Tests.{eqb-false, not-true, ne_eqb}
 use Rattle.sets.proofs.Digits.{and_share}
-use Rattle.sets.proofs.meets.Statement.{statement}
-use Rattle.sets.proofs.meets.Tie as tie
+use Rattle.sets.proofs.meets.Goals as goal
 
-returns : tie.Need-returns
+pub returns : goal.returns
 returns c =
     let S = c.args.set in
     let R = c.args.other in (
       (λ e. (and_share S R).0 (eqb-false (bit_and S R) 0 (not-true (eqb (bit_and S R) 0) e))),
       λ s. rw (ne_eqb (bit_and S R) 0 ((and_share S R).1 s)),
     )
-
-pub meets-spec : {M : Type 1} → statement M
-meets-spec = tie.close (tie.spec returns)

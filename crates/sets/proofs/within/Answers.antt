@@ -2,14 +2,10 @@
 use lib.Bits.{bit_and}
 use borrow.Author.Tests.{eqb-true, eq-eqb}
 use Rattle.sets.proofs.Digits.{and_within}
-use Rattle.sets.proofs.within.Statement.{statement}
-use Rattle.sets.proofs.within.Tie as tie
+use Rattle.sets.proofs.within.Goals as goal
 
-returns : tie.Need-returns
+pub returns : goal.returns
 returns c =
     let S = c.args.set in
     let R = c.args.other in
     ((λ e. (and_within S R).0 (eqb-true (bit_and S R) S e)), λ w. eq-eqb (bit_and S R) S ((and_within S R).1 w))
-
-pub within-spec : {M : Type 1} → statement M
-within-spec = tie.close (tie.spec returns)

@@ -1,0 +1,24 @@
+-- `checks::first_bad_assumed` meets its contract. The loop's invariant: the bytes from `i` on give the place.
+use mathlib.Core.Path.{refl, sym, ◌∙◌}
+use Prim.Native.Nat.{◌-◌}
+use native.Mathlib.Omega.{arith}
+use lib.ListN.{length}
+use Rattle.setups.specs.Refusals.{no_literal}
+use Rattle.setups.proofs.CheckLaws.{FirstFrom, walk_starts, walk_ends, first_found, first_on}
+use Rattle.setups.proofs.checks.first_bad_assumed.Goals as goal
+
+pub loop-i-init : goal.loop-i-init
+loop-i-init c = walk_starts _ _
+
+pub returns-then-no_literal : goal.returns-then-no_literal
+returns-then-no_literal c =
+    first_found _ _ _ c.loop-i.invariant c.loop-i-test.true
+    (sym c.no_literal.ensures ∙ c.if-no_literal.true)
+
+pub loop-i-preserved : goal.loop-i-preserved
+loop-i-preserved c =
+    first_on _ _ _ c.loop-i.invariant c.loop-i-test.true
+    (sym c.no_literal.ensures ∙ c.if-no_literal.false)
+
+pub returns : goal.returns
+returns c = walk_ends c.loop-i.invariant c.loop-i-test.false refl
