@@ -1,5 +1,5 @@
 -- Settling forced values (document 01, "One ask"): one step as it is said there, in any order; runs of steps; where they end.
-use Rattle.std.specs.Prelude.{◌≡◌, refl, ◌⊎◌, Bool, true, false, not, ◌&&◌, ◌||◌, List, [], ◌∷◌, ℕ, ◌-◌, T, ltb, get_or, set}
+use Rattle.std.specs.Prelude.{◌≡◌, refl, ◌⊎◌, Bool, true, false, not, ◌&&◌, ◌||◌, List, [], ◌∷◌, ℕ, T, ltb, get_or, set}
 use Rattle.sets.specs.Lists.{Among}
 use Rattle.setups.specs.Clauses.{place, wish, literal_true}
 

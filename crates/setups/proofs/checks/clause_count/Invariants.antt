@@ -1,12 +1,9 @@
 -- `checks::clause_count` meets its contract. The loop's invariant: `count`, at most `i`, and the clauses of the bytes from `i` on make
 -- all of them.
-use mathlib.Core.Path.{refl}
-use mathlib.Core.Logic.{⊎_elim}
 use Prim.Native.Nat.{◌-◌, ◌≤◌}
-use native.Mathlib.Omega.{arith}
 use lib.ListN.{length}
 use Rattle.setups.specs.Clauses.{clauses}
-use Rattle.setups.proofs.CheckLaws.{WalkedTo, walk_starts, walk_counts, walk_passes, walk_ends, clauses_end, clauses_literal}
+use Rattle.setups.proofs.CheckLaws.{WalkedTo}
 use Rattle.setups.proofs.checks.clause_count.Given as goal
 
 abbrev pub invariant-loop-i : goal.invariant-loop-i

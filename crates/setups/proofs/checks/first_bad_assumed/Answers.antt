@@ -1,10 +1,6 @@
 -- `checks::first_bad_assumed` meets its contract. The loop's invariant: the bytes from `i` on give the place.
 use mathlib.Core.Path.{refl, sym, ◌∙◌}
-use Prim.Native.Nat.{◌-◌}
-use native.Mathlib.Omega.{arith}
-use lib.ListN.{length}
-use Rattle.setups.specs.Refusals.{no_literal}
-use Rattle.setups.proofs.CheckLaws.{FirstFrom, walk_starts, walk_ends, first_found, first_on}
+use Rattle.setups.proofs.CheckLaws.{walk_starts, walk_ends, first_found, first_on}
 use Rattle.setups.proofs.checks.first_bad_assumed.Goals as goal
 
 pub loop-i-init : goal.loop-i-init

@@ -1,13 +1,9 @@
 -- `checks::first_bad_literal` meets its contract. The loop's invariant: the bytes from `i` on give the place.
-use mathlib.Core.Logic.{⊎_elim}
 use mathlib.Core.Path.{refl, sym, ◌∙◌}
-use Prim.Native.Nat.{◌-◌}
-use native.Mathlib.Omega.{arith}
-use lib.ListN.{length}
-use Rattle.setups.specs.Refusals.{no_clause_byte}
 use Rattle.setups.proofs.LiteralLaws.{end_fine, byte_literal}
-use Rattle.setups.proofs.CheckLaws.{FirstFrom, walk_starts, walk_ends, first_found, first_on}
+use Rattle.setups.proofs.CheckLaws.{walk_starts, walk_ends, first_found, first_on}
 use Rattle.setups.proofs.checks.first_bad_literal.Goals as goal
+use Rattle.setups.proofs.checks.first_bad_literal.Goals.{then-byte-ne0+else-no_literal, else-byte-ne0}
 
 pub loop-i-init : goal.loop-i-init
 loop-i-init c = walk_starts _ _
@@ -20,7 +16,10 @@ returns-then-no_literal c =
 pub loop-i-preserved : goal.loop-i-preserved
 loop-i-preserved c =
     first_on _ _ _ c.loop-i.invariant c.loop-i-test.true
-    (⊎_elim (λ w. byte_literal _ _ w.0.taken ∙ sym w.1.ensures ∙ w.2.left) (λ w. end_fine _ _ w.left) c.if-byte-ne0.branch)
+    (elim c.if-byte-ne0.branch [
+      | then-byte-ne0+else-no_literal w ↦ byte_literal _ _ w.if-byte-ne0.true ∙ sym w.no_literal.ensures ∙ w.if-no_literal.false
+      | else-byte-ne0 w ↦ end_fine _ _ w.if-byte-ne0.false
+    ])
 
 pub returns : goal.returns
 returns c = walk_ends c.loop-i.invariant c.loop-i-test.false refl

@@ -1,12 +1,8 @@
 -- `checks::first_bad_literal` meets its contract. The loop's invariant: the bytes from `i` on give the place.
-use mathlib.Core.Logic.{⊎_elim}
-use mathlib.Core.Path.{refl, sym, ◌∙◌}
 use Prim.Native.Nat.{◌-◌}
-use native.Mathlib.Omega.{arith}
 use lib.ListN.{length}
 use Rattle.setups.specs.Refusals.{no_clause_byte}
-use Rattle.setups.proofs.LiteralLaws.{end_fine, byte_literal}
-use Rattle.setups.proofs.CheckLaws.{FirstFrom, walk_starts, walk_ends, first_found, first_on}
+use Rattle.setups.proofs.CheckLaws.{FirstFrom}
 use Rattle.setups.proofs.checks.first_bad_literal.Given as goal
 
 abbrev pub invariant-loop-i : goal.invariant-loop-i

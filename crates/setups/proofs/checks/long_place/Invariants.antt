@@ -1,11 +1,8 @@
 -- `checks::long_place` meets its contract. The loop's invariant: the bytes from `i` on, after `run` literals, give the place.
-use mathlib.Core.Path.{refl}
-use mathlib.Core.Logic.{⊎_elim}
 use Prim.Native.Nat.{◌-◌}
-use native.Mathlib.Omega.{arith}
 use lib.ListN.{length}
 use Rattle.setups.specs.Code.Checks.{long_place}
-use Rattle.setups.proofs.CheckLaws.{WalkedTo, walk_starts, walk_counts, walk_stops, walk_ends, long_end, long_literal, long_stops}
+use Rattle.setups.proofs.CheckLaws.{WalkedTo}
 use Rattle.setups.proofs.checks.long_place.Given as goal
 
 abbrev pub invariant-loop-i : goal.invariant-loop-i
