@@ -27,7 +27,7 @@ APART = {
     "soft-then": "soft_then_is",
     "text-most": "text_most_lem",
 }
-DECLARED = re.compile(r"^\s*(?:(?:pub|abbrev|unfoldable|private)\s+)*([^\s(){}.;,:\"`|]+)\s*(?:[({][^=]*[)}]\s*)*:\s")
+DECLARED = re.compile(r"^\s*(?:(?:pub|abbrev|unfoldable|private)\s+)*([^\s(){}.;,:\"`|]+)\s*(?:[({][^=]*[)}]\s*)*:(?:\s|$)")
 LET = re.compile(r"\blet\s+([^\s(){}.;,:\"`]+)\s*[:=]")
 
 

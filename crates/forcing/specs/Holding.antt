@@ -23,10 +23,10 @@ abbrev pub holds : (ℕ → Bool) → List ℕ → ℕ → Bool
 holds test soft i = ltb i (min (length (settings soft)) settings_most) && all_pass test (get_or (settings soft) i [])
 
 -- soft (1), (2): under the same values the first setting does not hold, and the second may
-example-holds :
+example_holds :
     (holds (is_true (0 ∷ 2 ∷ [])) (1 ∷ 0 ∷ 2 ∷ 0 ∷ []) 0 ≡ false) × (holds (is_true (0 ∷ 2 ∷ [])) (1 ∷ 0 ∷ 2 ∷ 0 ∷ []) 1 ≡ false)
     × (holds (may_be (0 ∷ 2 ∷ [])) (1 ∷ 0 ∷ 2 ∷ 0 ∷ []) 1 ≡ true)
-example-holds = (refl, refl, refl)
+example_holds = (refl, refl, refl)
 
 -- no setting of the set holds
 abbrev pub AllBroken : ℕ → (ℕ → Bool) → List ℕ → Type 0

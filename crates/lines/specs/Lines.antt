@@ -45,9 +45,9 @@ abbrev pub last_line_length : ℕ
 last_line_length = 13
 
 -- whatever stands in them
-example-lengths :
+example_lengths :
     ((kind S : ℕ) → length (set_line kind S) ≡ set_line_length) × ((outcome ways clashes : ℕ) → length (last_line outcome ways clashes) ≡ last_line_length)
-example-lengths = (λ kind S. refl, λ outcome ways clashes. refl)
+example_lengths = (λ kind S. refl, λ outcome ways clashes. refl)
 
 -- how long the lines of two full lists are
 abbrev pub output_most : ℕ
@@ -60,8 +60,8 @@ pub record Puts (lines output : List ℕ) (filled : ℕ) (after : List ℕ) : Ty
   pub stored : after ≡ sets output 0 lines
 
 -- document 01's last line is 600000030003, its first 4000000005
-example-lines :
+example_lines :
     (last_line 0 3 3 ≡ 54 ∷ 48 ∷ 48 ∷ 48 ∷ 48 ∷ 48 ∷ 48 ∷ 51 ∷ 48 ∷ 48 ∷ 48 ∷ 51 ∷ 10 ∷ [])
     × (set_line way_out_kind 5 ≡ 52 ∷ 48 ∷ 48 ∷ 48 ∷ 48 ∷ 48 ∷ 48 ∷ 48 ∷ 48 ∷ 53 ∷ 10 ∷ [])
 unfolding digit_of
-example-lines = (refl, refl)
+example_lines = (refl, refl)

@@ -36,10 +36,10 @@ listed_lines found turned =
     (cond (eqb found.number unmet) (answer_lines unmet [] (0 ∷ [])) (refusal_lines found.number))
 
 -- TooMany from Turn puts out the last line alone, whatever List has listed; Unmet puts out the empty clash
-example-lines :
+example_lines :
     (turned_lines (3 ∷ 5 ∷ []) (record { number = 8; filled = 0; list = []; scratch = [] }) ≡ refusal_lines 8)
     × ((turned : ListResult) → listed_lines (record { number = 128; filled = 0; list = []; scratch = [] }) turned ≡ answer_lines 128 [] (0 ∷ []))
-example-lines = (refl, λ turned. refl)
+example_lines = (refl, λ turned. refl)
 
 -- `lines` answer the setup g: List gives `found`, and Turn, over its list and its scratch, gives `turned`
 pub record Answers (g : Setup) (lines : List ℕ) : Type 0 where

@@ -68,12 +68,12 @@ whole_true m (c ∷ cs) full w =
         (literal_cases m b)
 
 -- a model is stable
-pub model-stable : (m : List ℕ) (cs : List (List ℕ)) → Full m → T (all_true m cs) → Stable cs m
-model-stable m cs full t = record { whole = true_not_broken m cs t; calm = λ c among b f. full_not_free m b full f.free }
+pub model_stable : (m : List ℕ) (cs : List (List ℕ)) → Full m → T (all_true m cs) → Stable cs m
+model_stable m cs full t = record { whole = true_not_broken m cs t; calm = λ c among b f. full_not_free m b full f.free }
 
 -- so that settling stays within every model that it starts within
 pub settle_within : {cs : List (List ℕ)} {values end m : List ℕ} → Settles cs values end → Grows values m → Full m → T (all_true m cs) → Grows end m
-settle_within {cs} {m = m} h g full t = run_within (model-stable m cs full t) g (steps_run h.steps)
+settle_within {cs} {m = m} h g full t = run_within (model_stable m cs full t) g (steps_run h.steps)
 
 -- values of which none is free grow into themselves alone
 full_equal : {s m : List ℕ} → Full s → Grows s m → s ≡ m

@@ -52,8 +52,8 @@ ask_result n bytes assumed budget places =
     cond (eqb refusal 0) searched refused
 
 -- two variables, (1 2), (1 −2), (−1 2): the third visit has the model 1, 1, and the third place stays; the budget 2 is spent
-example-ask :
+example_ask :
     (ask_result 2 (1 ∷ 2 ∷ 0 ∷ 1 ∷ 130 ∷ 0 ∷ 129 ∷ 2 ∷ 0 ∷ []) [] 3 (9 ∷ 9 ∷ 9 ∷ []) ≡ record { number = 0; visits = 3; model = 1 ∷ 1 ∷ 9 ∷ [] })
     × (ask_result 2 (1 ∷ 2 ∷ 0 ∷ 1 ∷ 130 ∷ 0 ∷ 129 ∷ 2 ∷ 0 ∷ []) [] 2 (9 ∷ 9 ∷ 9 ∷ []) ≡ record { number = 10; visits = 0; model = 9 ∷ 9 ∷ 9 ∷ [] })
 unfolding ask_result
-example-ask = (refl, refl)
+example_ask = (refl, refl)

@@ -57,7 +57,7 @@ abbrev pub all_true : List ℕ → List (List ℕ) → Bool
 all_true m cs = all_pass (literal_true m) cs
 
 -- with variable 1 at 1 and variable 2 at 0: (−1 −2) is true, (−1 2) and the empty clause are not
-example-true :
+example_true :
     (all_true (1 ∷ 0 ∷ []) ((129 ∷ 130 ∷ []) ∷ []) ≡ true) × (all_true (1 ∷ 0 ∷ []) ((129 ∷ 2 ∷ []) ∷ []) ≡ false)
     × (clause_true (1 ∷ 0 ∷ []) [] ≡ false)
-example-true = (refl, refl, refl)
+example_true = (refl, refl, refl)

@@ -30,10 +30,10 @@ given_out sets list scratch =
     (record { number = finished; filled = length sets; list = written sets list; scratch = zeroed scratch })
 
 -- two sets in room 3 leave the third place; in room 1 they are TooMany, and only the scratch is written
-example-given-out :
+example_given_out :
     (given_out (5 ∷ 6 ∷ []) (9 ∷ 9 ∷ 9 ∷ []) (9 ∷ 9 ∷ 9 ∷ 9 ∷ []) ≡ record { number = 0; filled = 2; list = 5 ∷ 6 ∷ 9 ∷ []; scratch = 0 ∷ 0 ∷ 0 ∷ 0 ∷ [] })
     × (given_out (5 ∷ 6 ∷ []) (9 ∷ []) (9 ∷ 9 ∷ []) ≡ record { number = 8; filled = 0; list = 9 ∷ []; scratch = 0 ∷ 0 ∷ [] })
-example-given-out = (refl, refl)
+example_given_out = (refl, refl)
 
 -- ---- what giving out says of the sets that have P: of List's ways out, and of Turn's smallest sets across a list
 

@@ -32,8 +32,8 @@ write_result n hard soft text =
     cond (eqb refusal 0) finishes refused
 
 -- a setup with no variable and no clause takes eight places, 1000 and FF, and the ninth stays; with seven places it is Room
-example-write :
+example_write :
     (write_result 0 [] [] (1 ∷ 2 ∷ 3 ∷ 4 ∷ 5 ∷ 6 ∷ 7 ∷ 8 ∷ 9 ∷ []) ≡ record { number = 0; filled = 8; text = 49 ∷ 48 ∷ 48 ∷ 48 ∷ 10 ∷ 70 ∷ 70 ∷ 10 ∷ 9 ∷ [] })
     × (write_result 0 [] [] (1 ∷ 2 ∷ 3 ∷ 4 ∷ 5 ∷ 6 ∷ 7 ∷ []) ≡ record { number = 12; filled = 0; text = 1 ∷ 2 ∷ 3 ∷ 4 ∷ 5 ∷ 6 ∷ 7 ∷ [] })
 unfolding digit_of setup_text text_length write_result
-example-write = (refl, refl)
+example_write = (refl, refl)

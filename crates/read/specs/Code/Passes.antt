@@ -43,9 +43,9 @@ advance (Under count hards softs line) (End next) size = Over (cond (ltb next si
 advance (Under count hards softs line) NoFrame size = Over (Bad line)
 
 -- after 1001 and 2081 two hard bytes have come, and FF is the third line: at the end of 13 bytes the text is good, before a 14th the fourth line is bad
-example-advance :
+example_advance :
     (advance (Under 1 0 0 2) (Hard 1 10) 13 ≡ On (Under 1 2 0 3)) × (advance (Under 1 2 0 3) (End 13) 13 ≡ Over (Good 1 2 0)) × (advance (Under 1 2 0 3) (End 13) 14 ≡ Over (Bad 4))
-example-advance = (refl, refl, refl)
+example_advance = (refl, refl, refl)
 
 -- its sums are not above what has been counted, with a clause's literals and one more
 abbrev pub grown : Stage → ℕ
@@ -90,11 +90,11 @@ soft_bytes text at (End next) = []
 soft_bytes text at NoFrame = []
 
 -- 2081 brings the clause (−1) for the hard buffer
-example-bytes :
+example_bytes :
     let text : List ℕ = line (0x20 ∷ 0x81 ∷ []) in
     (hard_bytes text 0 (Hard 1 5) ≡ 129 ∷ 0 ∷ []) × (soft_bytes text 0 (Hard 1 5) ≡ [])
 unfolding between digit_of
-example-bytes = (refl, refl)
+example_bytes = (refl, refl)
 
 -- the pass that checks copies nothing
 abbrev pub copied : Pass → List ℕ → List ℕ
