@@ -8,7 +8,7 @@ use lib.Bits.{bit_and, bit_or}
 use lib.ListN.{length, get_or, drop, drop_of_length-le}
 use Rattle.numbers.proofs.Places.{front}
 use Rattle.sets.specs.Sets.{In, Share, AtMostOne}
-use Rattle.sets.proofs.Digits.{member, none_in, and_in, or_joins}
+use Rattle.sets.proofs.Digits.{none_in, and_in, or_joins}
 use Rattle.sets.proofs.Lists.{place_listed}
 use Rattle.members.specs.Members.{Hits, Alone, Own, Waits}
 
