@@ -1,0 +1,6 @@
+-- `found::keep_last` meets its contract: where the set is a single setting, that one has to pass.
+use Rattle.found.proofs.FoundLaws.{keeps_last}
+use Rattle.found.proofs.keep_last.Goals as goal
+
+pub returns-then-at_most_one : goal.returns-then-at_most_one
+returns-then-at_most_one c = keeps_last _ _ (c.at_most_one.ensures.0 c.if-at_most_one.true)
