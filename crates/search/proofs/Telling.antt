@@ -38,8 +38,8 @@ told_after budget used k (None visits) = rw (add_assoc used k visits)
 
 -- ---- the outcomes differ
 
-pub model-not-none : outcome.Model ≢ outcome.None
-model-not-none e = let z : ◌≡◌ {A = ℕ} 0 1 = cc in omega arith
+pub model_not_none : outcome.Model ≢ outcome.None
+model_not_none e = let z : ◌≡◌ {A = ℕ} 0 1 = cc in omega arith
 
 pub spent_not_none : outcome.Spent ≢ outcome.None
 spent_not_none e = let z : ◌≡◌ {A = ℕ} 0 1 = cc in omega arith
@@ -79,7 +79,7 @@ first_tells budget used (None visits) high a e n =
 pub second_tells : (budget used : ℕ) (low high : SearchResult) (a b : Visited) → a ≡ told budget used low → a.outcome ≡ outcome.None
     → b ≡ told budget a.used high → b ≡ told budget used (either low high)
 second_tells budget used (Model m visits) high a b e n h =
-    absurd (model-not-none (outcome_so (told_model budget used visits m (none_within budget used (Model m visits) a e n) ∙ sym e) ∙ n))
+    absurd (model_not_none (outcome_so (told_model budget used visits m (none_within budget used (Model m visits) a e n) ∙ sym e) ∙ n))
 second_tells budget used (None visits) high a b e n h =
     let low = told_none budget used visits (none_within budget used (None visits) a e n) in
     h ∙ ap (λ (a : Visited). told budget a.used high) (e ∙ sym low) ∙ told_after budget used visits high
