@@ -2,6 +2,7 @@
 use crate::places::{BYTES_MOST, OLD_BYTE};
 use crate::{answers, fields};
 use ask::Asked;
+use std::io;
 
 // Calls Ask on the fields, with what is lent to it.
 fn asked(line: &[u8], model: &mut [u8]) -> Asked {
@@ -14,17 +15,17 @@ fn asked(line: &[u8], model: &mut [u8]) -> Asked {
     ask::ask(count, clauses, assumed, budget, model)
 }
 
-fn write_outcome(asked: Asked) {
+fn write_outcome(rt: &impl Print, asked: Asked) -> io::Result<()> {
     match asked {
-        Asked::Model(visits) => answers::write_outcome(setups::FINISHED, visits as u64),
-        Asked::None(visits) => answers::write_outcome(setups::NO_MODEL, visits as u64),
-        Asked::Refused(refusal) => answers::write_refused(refusal),
+        Asked::Model(visits) => answers::write_outcome(rt, setups::FINISHED, visits as u64),
+        Asked::None(visits) => answers::write_outcome(rt, setups::NO_MODEL, visits as u64),
+        Asked::Refused(refusal) => answers::write_refused(rt, refusal),
     }
 }
 
-pub fn answer(line: &[u8]) {
+pub fn answer(rt: &impl Print, line: &[u8]) -> io::Result<()> {
     let mut places = [OLD_BYTE; BYTES_MOST];
     let model = fields::byte_room(line, 5, &mut places);
-    write_outcome(asked(line, model));
-    answers::write_bytes(model);
+    write_outcome(rt, asked(line, model))?;
+    answers::write_bytes(rt, model)
 }

@@ -1,9 +1,9 @@
 // The fields of a line, one space between two; the letter is field 0. A field is a number, a run of bytes or a run of sets, in
 // upper-case hexadecimal digits. A reader takes whatever stands there; the tests, `is_..`, tell whether it is right.
-ghost use Rattle.std.specs.Prelude.{◌+◌, ◌<◌, ◌≤◌, length};
+ghost use Rattle.std.specs.Prelude.{◌≡◌, ◌≢◌, ◌+◌, ◌<◌, ◌≤◌, length, slice_index};
+ghost use Rattle.std.specs.List.{AllWithin};
 
 use crate::places::{BYTES_MOST, SETS_MOST};
-use bytes::scan::find;
 use digits::{digit_value, is_digit};
 use sets::Set;
 
@@ -50,13 +50,29 @@ pub const NUMBERS: u64 = 0x1_0000_0000;
 
 const FIFTEEN_DIGITS: u64 = 0x1000_0000_0000_0000;
 
+// The first place from the start on that holds the byte; the end where none does.
+pub fn find(text: &[u8], start: usize, byte: u8) -> usize
+    requires { start ≤ length text.now }
+    ensures low { start ≤ result }
+    ensures high { result ≤ length text.now }
+    ensures before { AllWithin (λ each. each ≢ byte) text.now start result }
+    ensures found { result < length text.now → slice_index text.now result ≡ byte }
+{
+    for i in start..text.len() {
+        if text[i] == byte {
+            return i;
+        }
+    }
+    text.len()
+}
+
 // Where a field starts; the end of the line where it has none.
 fn start_of(line: &[u8], index: usize) -> usize
     ensures { result ≤ length line.now }
 {
     let mut start = 0;
     for _ in 0..index {
-        let end = find(line, start, line.len(), SPACE);
+        let end = find(line, start, SPACE);
         start = least(end + 1, line.len());
     }
     start
@@ -65,13 +81,13 @@ fn start_of(line: &[u8], index: usize) -> usize
 // A field; empty, which no test takes, where the line has none.
 pub fn field(line: &[u8], index: usize) -> &[u8] {
     let start = start_of(line, index);
-    let end = find(line, start, line.len(), SPACE);
+    let end = find(line, start, SPACE);
     &line[start..end]
 }
 
 // No field and no space follows the field.
 fn is_last(line: &[u8], index: usize) -> bool {
-    find(line, start_of(line, index), line.len(), SPACE) == line.len()
+    find(line, start_of(line, index), SPACE) == line.len()
 }
 
 fn all_digits(text: &[u8]) -> bool {

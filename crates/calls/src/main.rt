@@ -12,11 +12,14 @@ mod read_call;
 mod turn_call;
 mod write_call;
 
+ghost use Rattle.std.specs.Prelude.{◌≤◌, length, IfOk};
+
 use answers::write_byte;
-use bytes::scan::find;
-use fields::{BYTE_ROOM, BYTE_RUN, END, FIELDS_MOST, Kinds, NO_KIND, NUMBER, SET_ROOM, SET_RUN};
+use fields::{
+    BYTE_ROOM, BYTE_RUN, END, FIELDS_MOST, Kinds, NO_KIND, NUMBER, SET_ROOM, SET_RUN, find,
+};
 use frames::LINE_FEED;
-use libc::STDIN_FILENO;
+use std::io::{self, Read, Stdin};
 
 // How many bytes of input are taken at the most: 2 MiB.
 const INPUT_MOST: usize = 0x20_0000;
@@ -50,43 +53,53 @@ fn letter(line: &[u8]) -> u8 {
 }
 
 // Writes what answers a line: the letter, and what its job answers.
-fn answer(line: &[u8]) {
+fn answer(rt: &impl Print, line: &[u8]) -> io::Result<()> {
     let letter = letter(line);
-    write_byte(letter);
+    write_byte(rt, letter)?;
     match letter {
-        b'A' => ask_call::answer(line),
-        b'L' => list_call::answer(line),
-        b'T' => turn_call::answer(line),
-        b'M' => mark_call::answer(line),
-        b'R' => read_call::answer(line),
-        b'W' => write_call::answer(line),
-        _ => {}
+        b'A' => ask_call::answer(rt, line),
+        b'L' => list_call::answer(rt, line),
+        b'T' => turn_call::answer(rt, line),
+        b'M' => mark_call::answer(rt, line),
+        b'R' => read_call::answer(rt, line),
+        b'W' => write_call::answer(rt, line),
+        _ => Ok(()),
     }
 }
 
 // Answers the lines of the input in order; what lies after the last line feed is no call.
-fn answer_all(input: &[u8]) {
+fn answer_all(rt: &impl Print, input: &[u8]) -> io::Result<()> {
     let mut start = 0;
     while start < input.len() {
-        let end = find(input, start, input.len(), LINE_FEED);
+        let end = find(input, start, LINE_FEED);
         if end < input.len() {
-            answer(&input[start..end]);
+            answer(rt, &input[start..end])?;
         } else {
-            write_byte(NO_CALL);
+            write_byte(rt, NO_CALL)?;
         }
-        write_byte(LINE_FEED);
+        write_byte(rt, LINE_FEED)?;
         start = end + 1;
     }
+    Ok(())
+}
+
+// Reads until the places are full or the input ends, and tells how many bytes that is.
+fn read_input(from: Stdin, mut places: &mut [u8]) -> io::Result<usize>
+    ensures { IfOk result (λ taken. taken ≤ length places.new) }
+{
+    let most = places.len();
+    let taken = io::copy(&mut from.take(most as u64), &mut places)?;
+    Ok(most.min(taken as usize))
 }
 
 // Reads standard input to its end and answers it.
-fn answer_input(places: &mut Input) {
-    let taken = io::read_full(STDIN_FILENO, places);
+fn answer_input(rt: &HostRuntime, places: &mut Input) -> io::Result<()> {
+    let taken = read_input(rt.stdin(), places)?;
     let input = &places[..];
-    answer_all(&input[..taken]);
+    answer_all(rt, &input[..taken])
 }
 
-fn main() {
+fn main(rt: HostRuntime) -> io::Result<()> {
     let mut places = [0u8; INPUT_MOST];
-    answer_input(&mut places);
+    answer_input(&rt, &mut places)
 }

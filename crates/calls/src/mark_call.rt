@@ -2,6 +2,7 @@
 use crate::places::{BYTES_MOST, OLD_BYTE, OLD_SET, SETS_MOST};
 use crate::{answers, fields};
 use mark::Marking;
+use std::io;
 
 // Calls Mark on the fields, with what is lent to it.
 fn marking(line: &[u8], marks: &mut [u8]) -> Marking {
@@ -11,16 +12,16 @@ fn marking(line: &[u8], marks: &mut [u8]) -> Marking {
     mark::mark(settings, given, marks)
 }
 
-fn write_outcome(marking: Marking) {
+fn write_outcome(rt: &impl Print, marking: Marking) -> io::Result<()> {
     match marking {
-        Marking::Marked(filled) => answers::write_outcome(setups::FINISHED, filled as u64),
-        Marking::Refused(refusal) => answers::write_refused(refusal),
+        Marking::Marked(filled) => answers::write_outcome(rt, setups::FINISHED, filled as u64),
+        Marking::Refused(refusal) => answers::write_refused(rt, refusal),
     }
 }
 
-pub fn answer(line: &[u8]) {
+pub fn answer(rt: &impl Print, line: &[u8]) -> io::Result<()> {
     let mut places = [OLD_BYTE; BYTES_MOST];
     let marks = fields::byte_room(line, 3, &mut places);
-    write_outcome(marking(line, marks));
-    answers::write_bytes(marks);
+    write_outcome(rt, marking(line, marks))?;
+    answers::write_bytes(rt, marks)
 }

@@ -1,6 +1,7 @@
 // A call of Write, `W count hard soft textroom`, and its answer, `W number filled text`.
 use crate::places::{BYTES_MOST, OLD_BYTE};
 use crate::{answers, fields};
+use std::io;
 use write::Writing;
 
 // Calls Write on the fields, with what is lent to it.
@@ -13,16 +14,16 @@ fn writing(line: &[u8], text: &mut [u8]) -> Writing {
     write::write(count, hard, soft, text)
 }
 
-fn write_outcome(writing: Writing) {
+fn write_outcome(rt: &impl Print, writing: Writing) -> io::Result<()> {
     match writing {
-        Writing::Written(filled) => answers::write_outcome(setups::FINISHED, filled as u64),
-        Writing::Refused(refusal) => answers::write_refused(refusal),
+        Writing::Written(filled) => answers::write_outcome(rt, setups::FINISHED, filled as u64),
+        Writing::Refused(refusal) => answers::write_refused(rt, refusal),
     }
 }
 
-pub fn answer(line: &[u8]) {
+pub fn answer(rt: &impl Print, line: &[u8]) -> io::Result<()> {
     let mut places = [OLD_BYTE; BYTES_MOST];
     let text = fields::byte_room(line, 4, &mut places);
-    write_outcome(writing(line, text));
-    answers::write_bytes(text);
+    write_outcome(rt, writing(line, text))?;
+    answers::write_bytes(rt, text)
 }

@@ -1,17 +1,28 @@
 // Frames on standard input, lines on standard output (document 01, "The program's lines"). All that is decided is decided by `resolve`.
 #![tactic(auto)]
 
-use libc::{STDIN_FILENO, STDOUT_FILENO};
+ghost use Rattle.std.specs.Prelude.{◌≤◌, length, IfOk};
+
 use read::TEXT_MOST;
 use resolve::{OUTPUT_MOST, resolve};
+use std::io::{self, Read, Stdin};
 
 // One byte more than Read takes, so that a longer text is seen to be too long.
 const INPUT_MOST: usize = TEXT_MOST + 1;
 
-fn main() {
+// Reads until the places are full or the input ends, and tells how many bytes that is.
+fn read_input(from: Stdin, mut places: &mut [u8]) -> io::Result<usize>
+    ensures { IfOk result (λ taken. taken ≤ length places.new) }
+{
+    let most = places.len();
+    let taken = io::copy(&mut from.take(most as u64), &mut places)?;
+    Ok(most.min(taken as usize))
+}
+
+fn main(rt: HostRuntime) -> io::Result<()> {
     let mut input = [0u8; INPUT_MOST];
     let mut output = [0u8; OUTPUT_MOST];
-    let taken = io::read_full(STDIN_FILENO, &mut input);
+    let taken = read_input(rt.stdin(), &mut input)?;
     let filled = resolve(&input[..taken], &mut output);
-    io::write_all(STDOUT_FILENO, &output[..filled]);
+    rt.write_all(&output[..filled])
 }
