@@ -6,8 +6,6 @@ mod Following
 mod Passing
 -- what the filling pass copies
 mod Filling
--- a buffer that is lent again for a call
-mod Again
 -- from the two passes to Read's answer
 pub mod Answers
 -- which texts are read, no second result, and programs that the promise rejects

@@ -21,7 +21,7 @@ use Rattle.read.specs.declared.Advance.{Advance}
 use Rattle.read.specs.declared.Advance.TheVariants.{On, Over}
 use Rattle.read.specs.Texts.{Sofar, fresh, under, closed, spoilt, ending, following, good, bad, close, follow, judge, is_bad, hard_of, soft_of}
 use Rattle.read.specs.Code.Passes.{checked, advance, grown, literals_found, hard_bytes, soft_bytes}
-use Rattle.read.proofs.Following.{Real, Clause, clause, within, follow_end, follow_bad, follow_none, follow_frame}
+use Rattle.read.proofs.Following.{Real, Clause, clause, frame_ends, within, follow_end, follow_bad, follow_none, follow_frame}
 
 -- ---- which frame is found
 
@@ -63,6 +63,14 @@ fits_at at no_frame = omega arith
 literals_fit : (t : List ℕ) (at : ℕ) (r : Found) → r ≡ found_at t at → at + 2 * literals_found r ≤ next_place at r
 unfolding found_at
 literals_fit t at r e = rw e (fits_at at (frame (first (drop at t))))
+
+-- the next place lies within the text
+pub place_within : (t : List ℕ) (at : ℕ) (r : Found) → r ≡ found_at t at → at ≤ length t → next_place at r ≤ length t
+place_within t at (Header count place) e h = let f = found_tells t at (Header count place) e in omega (arith, f.1, frame_ends t at (header count) h f.0 tt)
+place_within t at (Hard k place) e h = let f = found_tells t at (Hard k place) e in omega (arith, f.3, frame_ends t at (hard f.0) h f.1 tt)
+place_within t at (Soft k place) e h = let f = found_tells t at (Soft k place) e in omega (arith, f.3, frame_ends t at (soft f.0) h f.1 tt)
+place_within t at (End place) e h = let f = found_tells t at (End place) e in omega (arith, f.1, frame_ends t at end h f.0 tt)
+place_within t at NoFrame e h = h
 
 -- ---- the pass
 
