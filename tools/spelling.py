@@ -68,7 +68,7 @@ def renamed():
         if not own(path):
             continue
         for line in read(path).split("\n"):
-            if line.lstrip().startswith(("--", "use ", "pub mod", "mod ")):
+            if line.lstrip().startswith(("--", "use ", "pub mod ", "mod ")):
                 continue
             for found in (DECLARED.match(line), *LET.finditer(line)):
                 if found and spelled(found.group(1)) != found.group(1):
