@@ -18,7 +18,7 @@ from scope_setups import Setup, scopes
 
 TOP = Path(__file__).resolve().parent.parent
 PROGRAM = f"{TOP / 'scripts' / 'run'} calls"
-COUNTED_PROGRAM = f"valgrind --tool=callgrind --callgrind-out-file=/dev/null {TOP / 'target' / 'bin' / 'calls'}"
+COUNTED_PROGRAM = f"valgrind --tool=callgrind --callgrind-out-file=/dev/null {TOP / 'crates' / 'calls' / 'out' / 'calls'}"
 ALL_BUDGET = 0xFFFFFFFF
 ROOM = 1024
 REPEATS = 3
