@@ -83,7 +83,8 @@ fn answer_all(rt: &impl Print, input: &[u8]) -> io::Result<()> {
     Ok(())
 }
 
-// Reads until the places are full or the input ends, and tells how many bytes that is.
+// Reads until the places are full or the input ends, and tells how many bytes that is. `take` lets no more through than there are places;
+// `min` says so once more for the proof, since `copy` doesn't promise it.
 fn read_input(from: Stdin, mut places: &mut [u8]) -> io::Result<usize>
     ensures { IfOk result (λ taken. taken ≤ length places.new) }
 {

@@ -17,7 +17,8 @@ type Input = [u8; INPUT_MOST];
 // What ends a text.
 const TEXT_END: u8 = 0;
 
-// Reads until the places are full or the input ends, and tells how many bytes that is.
+// Reads until the places are full or the input ends, and tells how many bytes that is. `take` lets no more through than there are places;
+// `min` says so once more for the proof, since `copy` doesn't promise it.
 fn read_input(from: Stdin, mut places: &mut [u8]) -> io::Result<usize>
     ensures { IfOk result (λ taken. taken ≤ length places.new) }
 {

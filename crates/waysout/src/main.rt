@@ -10,7 +10,8 @@ use std::io::{self, Read, Stdin};
 // One byte more than Read takes, so that a longer text is seen to be too long.
 const INPUT_MOST: usize = TEXT_MOST + 1;
 
-// Reads until the places are full or the input ends, and tells how many bytes that is.
+// Reads until the places are full or the input ends, and tells how many bytes that is. `take` lets no more through than there are places;
+// `min` says so once more for the proof, since `copy` doesn't promise it.
 fn read_input(from: Stdin, mut places: &mut [u8]) -> io::Result<usize>
     ensures { IfOk result (λ taken. taken ≤ length places.new) }
 {
