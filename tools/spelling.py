@@ -16,6 +16,7 @@ TOKEN = re.compile(r"[^\s(){}.;,⌜⌝@\"`:\[\]|]+")
 # Names that would fall together: what is defined keeps the name, and the lemma of it gets another.
 APART = {
     "first-clause": "first_clause_lem",
+    "getD_pad": "get_or_pad",
     "given_out": "given_out_lem",
     "hard-then": "hard_then_is",
     "is_false": "is_false_lem",
@@ -28,6 +29,8 @@ APART = {
     "text-most": "text_most_lem",
 }
 DECLARED = re.compile(r"^\s*(?:(?:pub|abbrev|unfoldable|private)\s+)*([^\s(){}.;,:\"`|]+)\s*(?:[({][^=]*[)}]\s*)*:(?:\s|$)")
+# A variable or an import's other name of several words.
+CAMEL = re.compile(r"[a-z][a-z0-9]*(?:[A-Z][a-z0-9]*)+")
 LET = re.compile(r"\blet\s+([^\s(){}.;,:\"`]+)\s*[:=]")
 
 
@@ -51,7 +54,11 @@ def write(path, text):
 
 def own(path):
     """A file of definitions or lemmas, and no function's own proof."""
-    return path.endswith(".antt") and os.path.basename(path) not in ("Proof.antt", "Answers.antt", "Invariants.antt")
+    return path.endswith(".antt") and not re.search(r"/proofs/.+/(Proof|Answers|Invariants)\.antt$", path)
+
+
+def uncommented(text):
+    return re.sub(r"(?m)^\s*--.*$", "", text)
 
 
 def spelled(name):
@@ -67,12 +74,20 @@ def renamed():
     for path in files(".antt"):
         if not own(path):
             continue
+        for name in TOKEN.findall(uncommented(read(path))):
+            if CAMEL.fullmatch(name):
+                table[name] = spelled(name)
         for line in read(path).split("\n"):
             if line.lstrip().startswith(("--", "use ", "pub mod ", "mod ")):
                 continue
             for found in (DECLARED.match(line), *LET.finditer(line)):
                 if found and spelled(found.group(1)) != found.group(1):
                     table[found.group(1)] = spelled(found.group(1))
+    # those that a `ghost use` gives in code
+    for path in files((".rt",)):
+        for name in re.findall(r" as ([\w']+)", "".join(re.findall(r"ghost use [^;]*;", read(path)))):
+            if CAMEL.fullmatch(name):
+                table[name] = spelled(name)
     return table | APART | {"open′": "open'"}
 
 

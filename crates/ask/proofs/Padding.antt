@@ -31,17 +31,17 @@ padded k (None visits) = None visits
 module _ (k : ℕ) where
   -- ---- a value, a scan
 
-  getD_pad : (values : List ℕ) (i : ℕ) → get_or (pad k values) i 0 ≡ get_or values i 0
-  getD_pad [] i = zeros_at k i
-  getD_pad (x ∷ values) zero = refl
-  getD_pad (x ∷ values) (suc i) = getD_pad values i
+  get_or_pad : (values : List ℕ) (i : ℕ) → get_or (pad k values) i 0 ≡ get_or values i 0
+  get_or_pad [] i = zeros_at k i
+  get_or_pad (x ∷ values) zero = refl
+  get_or_pad (x ∷ values) (suc i) = get_or_pad values i
 
   judge_pad : (values : List ℕ) (seen : Seen) (clause : List ℕ) → see_clause (pad k values) seen clause ≡ see_clause values seen clause
   unfolding see_clause
   judge_pad values seen [] = refl
   judge_pad values seen (b ∷ clause) =
       judge_pad values (see (pad k values) seen b) clause
-      ∙ ap (λ (x : ℕ). see_clause values (see_value seen b x) clause) (getD_pad values (place b))
+      ∙ ap (λ (x : ℕ). see_clause values (see_value seen b x) clause) (get_or_pad values (place b))
 
   scan_pad : (values : List ℕ) (cs : List (List ℕ)) → scan (pad k values) cs ≡ scan values cs
   unfolding scan
@@ -82,12 +82,12 @@ module _ (k : ℕ) where
   lowest_pad : (values : List ℕ) (i : ℕ) → Lowest values i → Lowest (pad k values) i
   lowest_pad values i l = record {
     inside = omega (arith, length-append values (replicate k 0), l.inside);
-    free = rw (getD_pad values i) l.free;
-    lowest = λ j h. rw (getD_pad values j) (l.lowest j h);
+    free = rw (get_or_pad values i) l.free;
+    lowest = λ j h. rw (get_or_pad values j) (l.lowest j h);
   }
 
   full_pad : (values : List ℕ) → Full values → Full (pad k values)
-  full_pad values h i = rw (getD_pad values i) (h i)
+  full_pad values h i = rw (get_or_pad values i) (h i)
 
   -- ---- visits
 

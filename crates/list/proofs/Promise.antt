@@ -47,24 +47,24 @@ list_result_only n hard soft list scratch r s p q = p.says ∙ rw (ways, met) (s
     met = T-equal p.met q.met (Iff.trans p.meets (Iff.symm q.meets))
 
 -- one result comes from one answer and two buffers
-answered_only : (answer other : Listing) (list scratch listToo scratchToo : List ℕ) → answered answer list scratch ≡ answered other listToo scratchToo
-    → (answer ≡ other) × (list ≡ listToo) × (scratch ≡ scratchToo)
-answered_only (Listed k) (Listed j) list scratch listToo scratchToo e = (ap Listed (filled_so e), list_so e, scratch_so e)
-answered_only (Listed k) Unmet list scratch listToo scratchToo e = absurd (let b : ⊥ = omega (arith, number_so e) in b)
-answered_only (Listed k) (Refused b) list scratch listToo scratchToo e = absurd (refused_number b (sym (number_so e)))
-answered_only Unmet (Listed j) list scratch listToo scratchToo e = absurd (let b : ⊥ = omega (arith, number_so e) in b)
-answered_only Unmet Unmet list scratch listToo scratchToo e = (refl, list_so e, scratch_so e)
-answered_only Unmet (Refused b) list scratch listToo scratchToo e = absurd (refused_not_unmet b (sym (number_so e)))
-answered_only (Refused a) (Listed j) list scratch listToo scratchToo e = absurd (refused_number a (number_so e))
-answered_only (Refused a) Unmet list scratch listToo scratchToo e = absurd (refused_not_unmet a (number_so e))
-answered_only (Refused a) (Refused b) list scratch listToo scratchToo e = (ap Refused (number_only a b (number_so e)), list_so e, scratch_so e)
+answered_only : (answer other : Listing) (list scratch list_too scratch_too : List ℕ) → answered answer list scratch ≡ answered other list_too scratch_too
+    → (answer ≡ other) × (list ≡ list_too) × (scratch ≡ scratch_too)
+answered_only (Listed k) (Listed j) list scratch list_too scratch_too e = (ap Listed (filled_so e), list_so e, scratch_so e)
+answered_only (Listed k) Unmet list scratch list_too scratch_too e = absurd (let b : ⊥ = omega (arith, number_so e) in b)
+answered_only (Listed k) (Refused b) list scratch list_too scratch_too e = absurd (refused_number b (sym (number_so e)))
+answered_only Unmet (Listed j) list scratch list_too scratch_too e = absurd (let b : ⊥ = omega (arith, number_so e) in b)
+answered_only Unmet Unmet list scratch list_too scratch_too e = (refl, list_so e, scratch_so e)
+answered_only Unmet (Refused b) list scratch list_too scratch_too e = absurd (refused_not_unmet b (sym (number_so e)))
+answered_only (Refused a) (Listed j) list scratch list_too scratch_too e = absurd (refused_number a (number_so e))
+answered_only (Refused a) Unmet list scratch list_too scratch_too e = absurd (refused_not_unmet a (number_so e))
+answered_only (Refused a) (Refused b) list scratch list_too scratch_too e = (ap Refused (number_only a b (number_so e)), list_so e, scratch_so e)
 
-pub list_only : (n : ℕ) (hard soft list scratch : List ℕ) (answer other : Listing) (listAfter scratchAfter listToo scratchToo : List ℕ)
-    → Lists n hard soft list scratch answer listAfter scratchAfter → Lists n hard soft list scratch other listToo scratchToo
-    → (answer ≡ other) × (listAfter ≡ listToo) × (scratchAfter ≡ scratchToo)
-list_only n hard soft list scratch answer other listAfter scratchAfter listToo scratchToo p q =
-    answered_only answer other listAfter scratchAfter listToo scratchToo
-    (list_result_only n hard soft list scratch (answered answer listAfter scratchAfter) (answered other listToo scratchToo) p q)
+pub list_only : (n : ℕ) (hard soft list scratch : List ℕ) (answer other : Listing) (list_after scratch_after list_too scratch_too : List ℕ)
+    → Lists n hard soft list scratch answer list_after scratch_after → Lists n hard soft list scratch other list_too scratch_too
+    → (answer ≡ other) × (list_after ≡ list_too) × (scratch_after ≡ scratch_too)
+list_only n hard soft list scratch answer other list_after scratch_after list_too scratch_too p q =
+    answered_only answer other list_after scratch_after list_too scratch_too
+    (list_result_only n hard soft list scratch (answered answer list_after scratch_after) (answered other list_too scratch_too) p q)
 
 -- ---- what each answer means
 

@@ -17,7 +17,7 @@ answered (Refused refusal) list scratch = without_list (number_of refusal) list 
 example_answered : ((answered (Refused TooMany) [] []).number ≡ 8) × ((answered Unmet [] []).number ≡ 128) × ((answered (Listed 3) [] []).filled ≡ 3)
 example_answered = (refl, refl, refl)
 
--- The promise: over n variables, the hard and the soft bytes and the two buffers, the answer leaves `listAfter` and `scratchAfter` in
+-- The promise: over n variables, the hard and the soft bytes and the two buffers, the answer leaves `list_after` and `scratch_after` in
 -- them.
 abbrev pub Lists : ℕ → List ℕ → List ℕ → List ℕ → List ℕ → Listing → List ℕ → List ℕ → Type 0
-Lists n hard soft list scratch answer listAfter scratchAfter = ListGives n hard soft list scratch (answered answer listAfter scratchAfter)
+Lists n hard soft list scratch answer list_after scratch_after = ListGives n hard soft list scratch (answered answer list_after scratch_after)

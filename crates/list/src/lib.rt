@@ -4,7 +4,7 @@
 mod checks;
 
 ghost use Rattle.std.specs.Prelude.{◌≡◌, ◌+◌, length};
-ghost use Rattle.setups.specs.Setups.{setup, count as settingsCount};
+ghost use Rattle.setups.specs.Setups.{setup, count as settings_count};
 ghost use Rattle.setups.specs.Code.Taken.{Taken};
 ghost use Rattle.list.specs.Code.Giving.{GivesWays};
 ghost use Rattle.list.specs.Listing.{Lists};
@@ -33,7 +33,7 @@ fn give_out(
     found: &mut [Set],
 ) -> Listing
     requires taken { Taken (setup count hard.now soft.now) }
-    requires settings_value { settings ≡ settingsCount (setup count hard.now soft.now) }
+    requires settings_value { settings ≡ settings_count (setup count hard.now soft.now) }
     requires found_len { length found.old ≡ length list.old + 1 }
     ensures { GivesWays (setup count hard.now soft.now) list.old found.old result list.new found.new }
 {

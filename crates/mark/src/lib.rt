@@ -3,7 +3,7 @@
 
 ghost use Rattle.std.specs.Prelude.{◌≡◌, ◌-◌, ◌≤◌, ◌<◌, length};
 ghost use Rattle.sets.specs.Tests.{all};
-ghost use Rattle.sets.specs.Marks.{mark as markAt, marks as marksOf};
+ghost use Rattle.sets.specs.Marks.{mark as mark_at, marks as marks_of};
 ghost use Rattle.setups.specs.Limits.{settings_most};
 ghost use Rattle.setups.specs.Written.{written};
 ghost use Rattle.mark.specs.Code.Agreeing.{agrees};
@@ -46,7 +46,7 @@ fn all_agree(list: &[Set], setting: Setting, held: bool) -> bool
 // The setting's letter, "tested in this order": the rule stands here alone.
 fn letter(list: &[Set], setting: Setting) -> u8
     requires { (0 < setting.0) × (setting.0 ≤ settings_most) }
-    ensures { result ≡ markAt list.now (setting.0 - 1) }
+    ensures { result ≡ mark_at list.now (setting.0 - 1) }
 {
     if all_agree(list, setting, false) {
         return KEPT;
@@ -60,7 +60,7 @@ fn letter(list: &[Set], setting: Setting) -> u8
 // Writes the letters of the first `count` settings.
 fn letters(count: u32, list: &[Set], marks: &mut [u8])
     requires { (count ≤ settings_most) × (count ≤ length marks.old) }
-    ensures { marks.new ≡ written (marksOf count list.now) marks.old }
+    ensures { marks.new ≡ written (marks_of count list.now) marks.old }
 {
     let mut i: u32 = 0;
     while i < count {

@@ -126,8 +126,8 @@ module _ (g : Setup) (taken : Taken g) (all : ℕ) (every : all ≡ 2 ^ min (cou
               (one.0, k.0, one.1, k.1);
         }
 
-        pub yes-model : (standing : Standing) → Stands w g.soft standing → Says g kept given found (Yes standing.sure)
-        yes-model standing stands = (
+        pub yes_model : (standing : Standing) → Stands w g.soft standing → Says g kept given found (Yes standing.sure)
+        yes_model standing stands = (
           take g.variables w,
           meets,
           record {

@@ -16,6 +16,6 @@ answered (Refused refusal) hard soft = record { number = number_of refusal; coun
 example_answered : answered (Refused Frame) [] (9 ∷ []) ≡ record { number = 11; count = 0; hard_filled = 0; soft_filled = 0; hard = []; soft = 9 ∷ [] }
 example_answered = refl
 
--- The promise: over a text and the two buffers, the answer leaves `hardAfter` and `softAfter` in them.
+-- The promise: over a text and the two buffers, the answer leaves `hard_after` and `soft_after` in them.
 abbrev pub Reads : List ℕ → List ℕ → List ℕ → Reading → List ℕ → List ℕ → Type 0
-Reads text hard soft answer hardAfter softAfter = answered answer hardAfter softAfter ≡ read_result text hard soft
+Reads text hard soft answer hard_after soft_after = answered answer hard_after soft_after ≡ read_result text hard soft

@@ -15,17 +15,17 @@ use Rattle.setups.specs.GivenOut.{ListResult, listed_sets}
 use Rattle.setups.specs.Turn.{TurnGives}
 use Rattle.setups.proofs.Refusals.{refused_number, refused_not_unmet}
 use Rattle.list.proofs.Promise.{lists_exist}
-use Rattle.list.specs.Listing.{answered as listAnswered}
+use Rattle.list.specs.Listing.{answered as list_answered}
 use Rattle.list.specs.declared.Listing.{Listing}
 use Rattle.list.specs.declared.Listing.TheVariants.{Listed, Unmet, Refused}
 use Rattle.turn.proofs.Promise.{turns_exist}
-use Rattle.turn.specs.Turning.{answered as turnAnswered}
+use Rattle.turn.specs.Turning.{answered as turn_answered}
 use Rattle.turn.specs.declared.Turning.{Turning}
 use Rattle.turn.specs.declared.Turning.TheVariants.{Listed as TurnListed, Refused as TurnRefused}
 use Rattle.read.specs.declared.Reading.{Reading}
 use Rattle.read.specs.declared.Reading.TheVariants.{Read, Refused as ReadRefused}
 use Rattle.read.specs.Read.{ReadResult}
-use Rattle.read.specs.Reading.{answered as readAnswered}
+use Rattle.read.specs.Reading.{answered as read_answered}
 use Rattle.lines.specs.Lines.{answer_lines, refusal_lines}
 use Rattle.resolve.specs.Resolve.{places, scratch_places, reading, setup_read, listed_lines, Answers, Resolves}
 use Rattle.resolve.specs.Code.Parts.{AnswersTurn}
@@ -38,21 +38,21 @@ not_finished refusal = ne_eqb (number_of refusal) finished (refused_number refus
 not_unmet : (refusal : Refusal) → eqb (number_of refusal) unmet ≡ false
 not_unmet refusal = ne_eqb (number_of refusal) unmet (refused_not_unmet refusal)
 
-module _ (n : ℕ) (ways scratch : List ℕ) (answer : Turning) (list' scratch' : List ℕ) (p : TurnGives n ways (places sets_most) scratch (turnAnswered answer list' scratch')) where
+module _ (n : ℕ) (ways scratch : List ℕ) (answer : Turning) (list' scratch' : List ℕ) (p : TurnGives n ways (places sets_most) scratch (turn_answered answer list' scratch')) where
   pub turn_refused : (refusal : Refusal) (number : ℕ) → answer ≡ TurnRefused refusal → number ≡ number_of refusal → AnswersTurn n ways scratch (refusal_lines number)
   turn_refused refusal number e q = record {
-    turned = turnAnswered (TurnRefused refusal) list' scratch';
+    turned = turn_answered (TurnRefused refusal) list' scratch';
     turns = rw e at p;
     says = rw (q, not_finished refusal);
   }
 
   pub turn_listed : (filled : ℕ) → answer ≡ TurnListed filled → AnswersTurn n ways scratch (answer_lines finished ways (take filled list'))
-  turn_listed filled e = record { turned = turnAnswered (TurnListed filled) list' scratch'; turns = rw e at p; says = refl }
+  turn_listed filled e = record { turned = turn_answered (TurnListed filled) list' scratch'; turns = rw e at p; says = refl }
 
 -- ---- after List
 
 module _ (n : ℕ) (hard soft : List ℕ) (answer : Listing) (list' scratch' : List ℕ)
-    (p : ListGives n hard soft (places sets_most) (places scratch_places) (listAnswered answer list' scratch')) where
+    (p : ListGives n hard soft (places sets_most) (places scratch_places) (list_answered answer list' scratch')) where
   -- where List lists nothing, Turn's result is asked for all the same, and not used
   without : (found : ListResult) → ListGives n hard soft (places sets_most) (places scratch_places) found → (lines : List ℕ)
       → ((turned : ListResult) → lines ≡ listed_lines found turned) → Answers (setup n hard soft) lines
@@ -62,15 +62,15 @@ module _ (n : ℕ) (hard soft : List ℕ) (answer : Listing) (list' scratch' : L
 
   pub list_refused : (refusal : Refusal) (number : ℕ) → answer ≡ Refused refusal → number ≡ number_of refusal → Answers (setup n hard soft) (refusal_lines number)
   list_refused refusal number e q =
-      without (listAnswered (Refused refusal) list' scratch') (rw e at p) (refusal_lines number) (λ turned. rw (q, not_finished refusal, not_unmet refusal))
+      without (list_answered (Refused refusal) list' scratch') (rw e at p) (refusal_lines number) (λ turned. rw (q, not_finished refusal, not_unmet refusal))
 
   pub list_unmet : answer ≡ Unmet → Answers (setup n hard soft) (answer_lines unmet [] (0 ∷ []))
-  list_unmet e = without (listAnswered Unmet list' scratch') (rw e at p) (answer_lines unmet [] (0 ∷ [])) (λ turned. refl)
+  list_unmet e = without (list_answered Unmet list' scratch') (rw e at p) (answer_lines unmet [] (0 ∷ [])) (λ turned. refl)
 
   pub list_listed : (filled : ℕ) → answer ≡ Listed filled → (settings : ℕ) → settings ≡ count (setup n hard soft) → (lines : List ℕ)
       → AnswersTurn settings (take filled list') scratch' lines → Answers (setup n hard soft) lines
   list_listed filled e settings s lines a = record {
-    found = listAnswered (Listed filled) list' scratch';
+    found = list_answered (Listed filled) list' scratch';
     lists = rw e at p;
     turned = a.turned;
     turns = let t = a.turns in rw s at t;
@@ -79,10 +79,10 @@ module _ (n : ℕ) (hard soft : List ℕ) (answer : Listing) (list' scratch' : L
 
 -- ---- after Read
 
-module _ (text : List ℕ) (answer : Reading) (hard soft : List ℕ) (p : readAnswered answer hard soft ≡ reading text) where
+module _ (text : List ℕ) (answer : Reading) (hard soft : List ℕ) (p : read_answered answer hard soft ≡ reading text) where
   pub read_refused : (refusal : Refusal) (number : ℕ) → answer ≡ ReadRefused refusal → number ≡ number_of refusal → Resolves text (refusal_lines number)
   read_refused refusal number e q =
-      let r : readAnswered (ReadRefused refusal) hard soft ≡ reading text = rw e at p in
+      let r : read_answered (ReadRefused refusal) hard soft ≡ reading text = rw e at p in
       let g = setup_read (reading text) in
       let found = lists_exist g.variables g.hard g.soft (places sets_most) (places scratch_places) in
       let turned = turns_exist (count g) (listed_sets found.0) (places sets_most) found.0.scratch in
@@ -96,7 +96,7 @@ module _ (text : List ℕ) (answer : Reading) (hard soft : List ℕ) (p : readAn
   pub read_read : (variables hard_filled soft_filled : ℕ) → answer ≡ Read variables hard_filled soft_filled → (lines : List ℕ)
       → Answers (setup variables (take hard_filled hard) (take soft_filled soft)) lines → Resolves text lines
   read_read variables hard_filled soft_filled e lines a =
-      let r : readAnswered (Read variables hard_filled soft_filled) hard soft ≡ reading text = rw e at p in
+      let r : read_answered (Read variables hard_filled soft_filled) hard soft ≡ reading text = rw e at p in
       record {
         answer = lines;
         answers = subst (λ (x : ReadResult). Answers (setup_read x) lines) r a;

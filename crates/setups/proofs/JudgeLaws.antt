@@ -92,22 +92,22 @@ fine_clauses n hard soft rest e =
     }
 
 -- where none of List's 1 to 7 is, the scratch has one place more than the list
-pub list_taken : (n : ℕ) (hard soft : List ℕ) (room scratchRoom : ℕ) → list_refusal n hard soft room scratchRoom ≡ 0
-    → (room < scratchRoom) × FineClauses n hard soft
-list_taken n hard soft room scratchRoom e =
+pub list_taken : (n : ℕ) (hard soft : List ℕ) (room scratch_room : ℕ) → list_refusal n hard soft room scratch_room ≡ 0
+    → (room < scratch_room) × FineClauses n hard soft
+list_taken n hard soft room scratch_room e =
     let large = ltb hard_bytes_most (length hard) || (ltb soft_bytes_most (length soft) || ltb sets_most room) in
     let vars = check_none (ltb variables_most n) Vars _ e in
     let size = check_none large Size _ vars.1 in
-    let work = check_none (leb scratchRoom room) Work (clauses_refusal n hard soft 0) size.1 in
-    (leb-false scratchRoom room work.0, fine_clauses n hard soft 0 work.1)
+    let work = check_none (leb scratch_room room) Work (clauses_refusal n hard soft 0) size.1 in
+    (leb-false scratch_room room work.0, fine_clauses n hard soft 0 work.1)
 
 -- ---- List's refusals before the search are those up to 7
 
-pub list_most : (n : ℕ) (hard soft : List ℕ) (room scratchRoom : ℕ) → list_refusal n hard soft room scratchRoom ≤ 7
-list_most n hard soft room scratchRoom =
+pub list_most : (n : ℕ) (hard soft : List ℕ) (room scratch_room : ℕ) → list_refusal n hard soft room scratch_room ≤ 7
+list_most n hard soft room scratch_room =
     check_most 7 (ltb variables_most n) Vars _ (omega arith)
     (check_most 7 (ltb hard_bytes_most (length hard) || (ltb soft_bytes_most (length soft) || ltb sets_most room)) Size _ (omega arith)
-    (check_most 7 (leb scratchRoom room) Work _ (omega arith)
+    (check_most 7 (leb scratch_room room) Work _ (omega arith)
     (check_most 7 (offends (no_clause_byte n) hard || offends (no_clause_byte n) soft) Literal _ (omega arith)
     (check_most 7 (not (ended hard) || not (ended soft)) Tail _ (omega arith)
     (check_most 7 (long hard || long soft) Long _ (omega arith)

@@ -9,10 +9,10 @@ use Rattle.setups.specs.GivenOut.{ListResult, without_list, zeroed, given_out}
 
 -- 1, 2, 3, 4, 5, 6, 7; 0 where none is given. Work: "scratch shorter than room + 1"
 abbrev pub list_refusal : ℕ → List ℕ → List ℕ → ℕ → ℕ → ℕ
-list_refusal n hard soft room scratchRoom =
+list_refusal n hard soft room scratch_room =
     check (ltb variables_most n) Vars
     (check (ltb hard_bytes_most (length hard) || (ltb soft_bytes_most (length soft) || ltb sets_most room)) Size
-    (check (leb scratchRoom room) Work (clauses_refusal n hard soft 0)))
+    (check (leb scratch_room room) Work (clauses_refusal n hard soft 0)))
 
 abbrev pub listed_result : ℕ → Bool → List ℕ → List ℕ → List ℕ → ListResult
 listed_result refusal met ways list scratch =

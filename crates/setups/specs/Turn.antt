@@ -9,10 +9,10 @@ use Rattle.setups.specs.GivenOut.{ListResult, without_list, given_out}
 
 -- 7, 2, 3, 9; 0 where none is given
 abbrev pub turn_refusal : ℕ → List ℕ → ℕ → ℕ → ℕ
-turn_refusal n given room scratchRoom =
+turn_refusal n given room scratch_room =
     check (ltb settings_most n) Softs
     (check (ltb sets_most (length given) || ltb sets_most room) Size
-    (check (leb scratchRoom room) Work
+    (check (leb scratch_room room) Work
     (check (not (fine n given)) NotAList 0)))
 
 -- over one setting the list 0, 1 is refused, since 0 lies within 1 (P13); over two settings the list 1, 2 may be turned

@@ -61,8 +61,8 @@ module _ (n : ℕ) {given : List ℕ} (list : List ℕ) {scratch after : List �
   found_turned l = record { rising = grown.rising; exact = λ S. (found_cross S, λ c. grown.whole l S ((whole_branch n given S).1 c)) }
 
   -- it fits, and is given out
-  pub gives_list : {listAfter scratchAfter : List ℕ} → found ≤ length list → listAfter ≡ take found after ++ drop found list
-      → scratchAfter ≡ replicate (length after) 0 → GivesTurn n given list scratch (answered (Listed found) listAfter scratchAfter)
+  pub gives_list : {list_after scratch_after : List ℕ} → found ≤ length list → list_after ≡ take found after ++ drop found list
+      → scratch_after ≡ replicate (length after) 0 → GivesTurn n given list scratch (answered (Listed found) list_after scratch_after)
   gives_list l e z = record {
     turned = take found after;
     exact = found_turned l;
@@ -70,8 +70,8 @@ module _ (n : ℕ) {given : List ℕ} (list : List ℕ) {scratch after : List �
   }
 
   -- the turn is longer than the room
-  pub gives_too_many : {scratchAfter : List ℕ} → length list < found → scratchAfter ≡ replicate (length after) 0
-      → GivesTurn n given list scratch (answered (Refused TooMany) list scratchAfter)
+  pub gives_too_many : {scratch_after : List ℕ} → length list < found → scratch_after ≡ replicate (length after) 0
+      → GivesTurn n given list scratch (answered (Refused TooMany) list scratch_after)
   gives_too_many l z =
       let t = turn_exists n given in
       let longer : found ≤ length t.0 = rw (length-take-le found after fits) at (rising_shorter (take found after) t.0 grown.rising t.1.rising (λ S h. (t.1.exact S).1 (found_cross S h))) in

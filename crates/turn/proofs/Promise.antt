@@ -40,54 +40,54 @@ pub turn_result_only : (n : ℕ) (given list scratch : List ℕ) (r s : ListResu
 turn_result_only n given list scratch r s p q = p.says ∙ rw (turn_unique n given p.turned q.turned p.exact q.exact) (sym q.says)
 
 -- one result comes from one answer and two buffers
-answered_only : (answer other : Turning) (list scratch listToo scratchToo : List ℕ) → answered answer list scratch ≡ answered other listToo scratchToo
-    → (answer ≡ other) × (list ≡ listToo) × (scratch ≡ scratchToo)
-answered_only (Listed n) (Listed m) list scratch listToo scratchToo e = (ap Listed (filled_so e), list_so e, scratch_so e)
-answered_only (Listed n) (Refused b) list scratch listToo scratchToo e = absurd (refused_number b (sym (number_so e)))
-answered_only (Refused a) (Listed m) list scratch listToo scratchToo e = absurd (refused_number a (number_so e))
-answered_only (Refused a) (Refused b) list scratch listToo scratchToo e = (ap Refused (number_only a b (number_so e)), list_so e, scratch_so e)
+answered_only : (answer other : Turning) (list scratch list_too scratch_too : List ℕ) → answered answer list scratch ≡ answered other list_too scratch_too
+    → (answer ≡ other) × (list ≡ list_too) × (scratch ≡ scratch_too)
+answered_only (Listed n) (Listed m) list scratch list_too scratch_too e = (ap Listed (filled_so e), list_so e, scratch_so e)
+answered_only (Listed n) (Refused b) list scratch list_too scratch_too e = absurd (refused_number b (sym (number_so e)))
+answered_only (Refused a) (Listed m) list scratch list_too scratch_too e = absurd (refused_number a (number_so e))
+answered_only (Refused a) (Refused b) list scratch list_too scratch_too e = (ap Refused (number_only a b (number_so e)), list_so e, scratch_so e)
 
-pub turn_only : (n : ℕ) (given list scratch : List ℕ) (answer other : Turning) (listAfter scratchAfter listToo scratchToo : List ℕ)
-    → Turns n given list scratch answer listAfter scratchAfter → Turns n given list scratch other listToo scratchToo
-    → (answer ≡ other) × (listAfter ≡ listToo) × (scratchAfter ≡ scratchToo)
-turn_only n given list scratch answer other listAfter scratchAfter listToo scratchToo p q =
-    answered_only answer other listAfter scratchAfter listToo scratchToo
-    (turn_result_only n given list scratch (answered answer listAfter scratchAfter) (answered other listToo scratchToo) p q)
+pub turn_only : (n : ℕ) (given list scratch : List ℕ) (answer other : Turning) (list_after scratch_after list_too scratch_too : List ℕ)
+    → Turns n given list scratch answer list_after scratch_after → Turns n given list scratch other list_too scratch_too
+    → (answer ≡ other) × (list_after ≡ list_too) × (scratch_after ≡ scratch_too)
+turn_only n given list scratch answer other list_after scratch_after list_too scratch_too p q =
+    answered_only answer other list_after scratch_after list_too scratch_too
+    (turn_result_only n given list scratch (answered answer list_after scratch_after) (answered other list_too scratch_too) p q)
 
 -- ---- what each answer means
 
-module _ (n : ℕ) (given : List ℕ) (room scratchRoom : ℕ) where
+module _ (n : ℕ) (given : List ℕ) (room scratch_room : ℕ) where
   -- the checks before the search give 7, 2, 3 or 9, or none
-  pub turn_most : (turn_refusal n given room scratchRoom ≤ 9) × (turn_refusal n given room scratchRoom ≢ number_of TooMany)
+  pub turn_most : (turn_refusal n given room scratch_room ≤ 9) × (turn_refusal n given room scratch_room ≢ number_of TooMany)
   turn_most =
       cond_case Small (ltb settings_most n) (λ e. omega arith) (λ e. cond_case Small (ltb sets_most (length given) || ltb sets_most room) (λ e. omega arith)
-      (λ e. cond_case Small (leb scratchRoom room) (λ e. omega arith) (λ e. cond_case Small (not (fine n given)) (λ e. omega arith) (λ e. omega arith))))
+      (λ e. cond_case Small (leb scratch_room room) (λ e. omega arith) (λ e. cond_case Small (not (fine n given)) (λ e. omega arith) (λ e. omega arith))))
     where
       Small : ℕ → Type 0
       Small x = (x ≤ 9) × (x ≢ number_of TooMany)
 
   -- none is given exactly when the list may be turned
-  pub turnable_iff : (turn_refusal n given room scratchRoom ≡ 0) ↔ Turnable n given room scratchRoom
+  pub turnable_iff : (turn_refusal n given room scratch_room ≡ 0) ↔ Turnable n given room scratch_room
   turnable_iff = (to, from)
     where
-      to : turn_refusal n given room scratchRoom ≡ 0 → Turnable n given room scratchRoom
+      to : turn_refusal n given room scratch_room ≡ 0 → Turnable n given room scratch_room
       to e =
           let softs = check_none (ltb settings_most n) Softs _ e in
           let size = check_none (ltb sets_most (length given) || ltb sets_most room) Size _ softs.1 in
           let sizes = neither (ltb sets_most (length given)) (ltb sets_most room) size.0 in
-          let work = check_none (leb scratchRoom room) Work _ size.1 in
+          let work = check_none (leb scratch_room room) Work _ size.1 in
           let list = check_none (not (fine n given)) NotAList 0 work.1 in
           record {
             settings = ltb-false settings_most n softs.0;
             sets = ltb-false sets_most (length given) sizes.0;
             places = ltb-false sets_most room sizes.1;
-            work = leb-false scratchRoom room work.0;
+            work = leb-false scratch_room room work.0;
             fine = (fine_iff n given).0 ((T_true (fine n given)).1 (not-false (fine n given) list.0));
           }
 
-      from : Turnable n given room scratchRoom → turn_refusal n given room scratchRoom ≡ 0
+      from : Turnable n given room scratch_room → turn_refusal n given room scratch_room ≡ 0
       from t =
-          rw (le-ltb settings_most n t.settings, le-ltb sets_most (length given) t.sets, le-ltb sets_most room t.places, lt-leb scratchRoom room t.work, (T_true (fine n given)).0 ((fine_iff n given).1 t.fine))
+          rw (le-ltb settings_most n t.settings, le-ltb sets_most (length given) t.sets, le-ltb sets_most room t.places, lt-leb scratch_room room t.work, (T_true (fine n given)).0 ((fine_iff n given).1 t.fine))
 
 pub turn_means : (n : ℕ) (given list scratch : List ℕ) (r : ListResult) → TurnGives n given list scratch r
     → TurnMeans n given (turn_refusal n given (length list) (length scratch)) list scratch r

@@ -6,11 +6,11 @@ use Rattle.setups.specs.Limits.{sets_most, settings_most}
 use Rattle.setups.specs.GivenOut.{ListResult, without_list, GivesExactly}
 
 -- the list may be turned over n settings, into so many places and with such a scratch: none of 7, 2, 3, 9 is given
-pub record Turnable (n : ℕ) (given : List ℕ) (room scratchRoom : ℕ) : Type 0 where
+pub record Turnable (n : ℕ) (given : List ℕ) (room scratch_room : ℕ) : Type 0 where
   pub settings : n ≤ settings_most
   pub sets : length given ≤ sets_most
   pub places : room ≤ sets_most
-  pub work : room < scratchRoom
+  pub work : room < scratch_room
   pub fine : Fine n given
 
 -- of the result r, where `refusal` is the first of 7, 2, 3, 9, or 0

@@ -16,6 +16,6 @@ answered (Refused refusal) list scratch = without_list (number_of refusal) list 
 example_answered : answered (Refused TooMany) (9 ∷ []) (0 ∷ 0 ∷ []) ≡ record { number = 8; filled = 0; list = 9 ∷ []; scratch = 0 ∷ 0 ∷ [] }
 example_answered = refl
 
--- The promise: over n settings, the given list and the two buffers, the answer leaves `listAfter` and `scratchAfter` in them.
+-- The promise: over n settings, the given list and the two buffers, the answer leaves `list_after` and `scratch_after` in them.
 abbrev pub Turns : ℕ → List ℕ → List ℕ → List ℕ → Turning → List ℕ → List ℕ → Type 0
-Turns n given list scratch answer listAfter scratchAfter = TurnGives n given list scratch (answered answer listAfter scratchAfter)
+Turns n given list scratch answer list_after scratch_after = TurnGives n given list scratch (answered answer list_after scratch_after)

@@ -153,16 +153,16 @@ module _ (count : ℕ) (hard soft : List ℕ) where
 then_stored : (t after again xs ys : List ℕ) (at : ℕ) → after ≡ sets t 0 xs → at ≡ length xs → again ≡ sets after at ys → again ≡ sets t 0 (xs ++ ys)
 then_stored t after again xs ys at e l a = a ∙ rw (e, l, sets_append t xs ys 0, zero-add (length xs))
 
-module _ (count : ℕ) (hard soft t t₁ t₂ t₃ t₄ t₅ : List ℕ) (afterHard afterSoft : ℕ) where
+module _ (count : ℕ) (hard soft t t₁ t₂ t₃ t₄ t₅ : List ℕ) (after_hard after_soft : ℕ) where
   -- the header, the clauses and FF, stored one after the other
   pub setup_stored : t₁ ≡ sets t 0 (digits (header_kind ∷ []))
       → t₂ ≡ sets t₁ 2 (digits (count ∷ []))
-      → afterHard ≡ 5 + length (clause_lines hard_kind (clauses hard))
+      → after_hard ≡ 5 + length (clause_lines hard_kind (clauses hard))
       → t₃ ≡ sets (set t₂ 4 line_feed) 5 (clause_lines hard_kind (clauses hard))
-      → afterSoft ≡ afterHard + length (clause_lines soft_kind (clauses soft))
-      → t₄ ≡ sets t₃ afterHard (clause_lines soft_kind (clauses soft))
-      → t₅ ≡ sets t₄ afterSoft (digits (end_kind ∷ []))
-      → set t₅ (afterSoft + 2) line_feed ≡ sets t 0 (setup_text count hard soft)
+      → after_soft ≡ after_hard + length (clause_lines soft_kind (clauses soft))
+      → t₄ ≡ sets t₃ after_hard (clause_lines soft_kind (clauses soft))
+      → t₅ ≡ sets t₄ after_soft (digits (end_kind ∷ []))
+      → set t₅ (after_soft + 2) line_feed ≡ sets t 0 (setup_text count hard soft)
   unfolding setup_text
   setup_stored e₁ e₂ a e₃ b e₄ e₅ =
       let first = line (header_kind ∷ count ∷ []) in
@@ -171,7 +171,7 @@ module _ (count : ℕ) (hard soft t t₁ t₂ t₃ t₄ t₅ : List ℕ) (afterH
       let last = line (end_kind ∷ []) in
       let header : set t₂ 4 line_feed ≡ sets t 0 first = rw (e₂, e₁) in
       let hards : t₃ ≡ sets t 0 (first ++ h) = then_stored t _ t₃ first h 5 header refl e₃ in
-      let softs : t₄ ≡ sets t 0 (first ++ h ++ s) = then_stored t t₃ t₄ (first ++ h) s afterHard hards (a ∙ sym (length-append first h)) e₄ in
-      let ends : set t₅ (afterSoft + 2) line_feed ≡ sets t 0 (first ++ h ++ s ++ last) =
-      then_stored t t₄ _ (first ++ h ++ s) last afterSoft softs (omega (arith, length-append h s)) (rw (e₅, add-two afterSoft)) in
+      let softs : t₄ ≡ sets t 0 (first ++ h ++ s) = then_stored t t₃ t₄ (first ++ h) s after_hard hards (a ∙ sym (length-append first h)) e₄ in
+      let ends : set t₅ (after_soft + 2) line_feed ≡ sets t 0 (first ++ h ++ s ++ last) =
+      then_stored t t₄ _ (first ++ h ++ s) last after_soft softs (omega (arith, length-append h s)) (rw (e₅, add-two after_soft)) in
       ends ∙ ap (λ (rest : List ℕ). sets t 0 (first ++ rest)) (append_assoc h s last)

@@ -22,7 +22,7 @@ use Rattle.digits.proofs.Hexadecimal.{digit_back, byte_back}
 use Rattle.frames.specs.Frames.{line_feed, line, lines, line_bytes, header_kind, hard_kind, soft_kind, end_kind, frame_most, Frame, header, hard, soft, end, frame}
 use Rattle.read.specs.Texts.{Sofar, fresh, under, ending, following, good, follow, judge}
 use Rattle.read.specs.Read.{text_most, read_result}
-use Rattle.read.proofs.Answers.{fillsWith, accepts}
+use Rattle.read.proofs.Answers.{fills_with, accepts}
 use Rattle.write.specs.SetupText.{Bytes, clause_lines, setup_text, text_length, setup_text_most}
 use Rattle.write.specs.Write.{WriteResult, write_result}
 use Rattle.write.proofs.ClauseLines.{first_of, literals_and_ends, measured}
@@ -193,7 +193,7 @@ module _ (count : ℕ) (hards softs : List ℕ) (f : Fine count hards softs) whe
 -- Where Write took a setup, Read takes what it wrote, whatever the text buffer, and fills buffers that hold it with the same setup.
 pub round_trip : (count : ℕ) (hards softs text hard' soft' : List ℕ) → Bytes hards → Bytes softs → (write_result count hards softs text).number ≡ finished
     → length hards ≤ length hard' → length softs ≤ length soft'
-    → read_result (take (write_result count hards softs text).filled (write_result count hards softs text).text) hard' soft' ≡ fillsWith count hards softs hard' soft'
+    → read_result (take (write_result count hards softs text).filled (write_result count hards softs text).text) hard' soft' ≡ fills_with count hards softs hard' soft'
 round_trip count hards softs text hard' soft' h s e hr sr =
     let taken = not_refused count hards softs text e in
     let f = fine count hards softs _ taken in

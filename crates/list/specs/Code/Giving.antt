@@ -18,11 +18,11 @@ Checks g refusal (Unfit r) = refusal ≡ number_of r
 
 -- The list given out from the places it was found in, of which the job makes zeros afterwards: `ways` are exactly the ways out, rising,
 -- and `met` tells whether the hard clauses have a model.
-pub record GivesWays (g : Setup) (list found : List ℕ) (answer : Listing) (after foundAfter : List ℕ) : Type 0 where
+pub record GivesWays (g : Setup) (list found : List ℕ) (answer : Listing) (after found_after : List ℕ) : Type 0 where
   pub ways : List ℕ
   pub exact : Exactly (WayOut g) ways
   pub met : Bool
   pub meets : T met ↔ Together g 0
-  pub places : foundAfter ≡ over ways found
+  pub places : found_after ≡ over ways found
   pub says : (scratch : List ℕ)
       → answered answer after (zeroed scratch) ≡ cond met (given_out ways list scratch) (without_list unmet list (zeroed scratch))

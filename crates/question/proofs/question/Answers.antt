@@ -3,7 +3,7 @@ use mathlib.Core.Path.{◌≡◌, ◌∙◌, ap}
 use Prim.Native.Nat.{ℕ, ◌-◌, ◌^◌, min}
 use Rattle.setups.specs.Limits.{settings_most}
 use Rattle.setups.specs.Setups.{setup, count}
-use Rattle.question.proofs.Answers.{given_below, no_start, no_model_lem, yes-model}
+use Rattle.question.proofs.Answers.{given_below, no_start, no_model_lem, yes_model}
 use Rattle.question.proofs.question.Goals as goal
 use Rattle.question.proofs.question.Goals.{After-full-all}
 
@@ -28,5 +28,5 @@ returns-then-sought c =
 
 pub returns : goal.returns
 returns c =
-    yes-model _ c.requires _ (every (goal.at.returns c).After-full-all) _ c.args.given _ _ _ c.complete.ensures _ c.seek-sought.ensures
+    yes_model _ c.requires _ (every (goal.at.returns c).After-full-all) _ c.args.given _ _ _ c.complete.ensures _ c.seek-sought.ensures
     c.if-sought.false _ c.stand-standing.ensures

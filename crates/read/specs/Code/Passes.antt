@@ -21,13 +21,13 @@ checked (good count h s) = Good count (length h) (length s)
 checked (bad n) = Bad n
 
 -- a good text, and two buffers that hold what it says
-pub record Held (text hardBuffer softBuffer : List ℕ) : Type 0 where
+pub record Held (text hard_buffer soft_buffer : List ℕ) : Type 0 where
   pub count : ℕ
   pub h : List ℕ
   pub s : List ℕ
   pub says : judge text ≡ good count h s
-  pub hard_room : length h ≤ length hardBuffer
-  pub soft_room : length s ≤ length softBuffer
+  pub hard_room : length h ≤ length hard_buffer
+  pub soft_room : length s ≤ length soft_buffer
 
 -- in a text of `size` bytes: the header first, and once, then clauses, then FF, and nothing after it
 abbrev pub advance : Stage → Found → ℕ → Advance
