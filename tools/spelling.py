@@ -16,7 +16,7 @@ TOKEN = re.compile(r"[^\s(){}.;,⌜⌝@\"`:\[\]|]+")
 # Names that would fall together: what is defined keeps the name, and the lemma of it gets another.
 APART = {
     "first-clause": "first_clause_lem",
-    "getD_pad": "get_or_pad",
+    "getD-pad": "get_or_pad",
     "given_out": "given_out_lem",
     "hard-then": "hard_then_is",
     "is_false": "is_false_lem",
