@@ -8,9 +8,7 @@ ghost use Rattle.setups.specs.Code.Checks.{place_in, tail_place, long_place, set
 
 use crate::LITERALS_MOST;
 use numbers::variable_of;
-
-// The most settings, as a count of places.
-const SETTINGS_MOST: usize = sets::SETTINGS_MOST as usize;
+use sets::SETTINGS_MOST;
 
 // The byte is no literal of `count` variables.
 fn no_literal(count: u32, byte: u8) -> bool
