@@ -8,7 +8,8 @@ ghost use Rattle.setups.specs.Limits.{variables_most};
 ghost use Rattle.setups.specs.Clauses.{clauses, LiteralOf};
 ghost use Rattle.setups.specs.Searching;
 ghost use Rattle.setups.specs.Ask.{units};
-ghost use Rattle.scans.specs.Scans.{decides, further, scanned, clauses_of, Readable, ReadableUnits};
+ghost use Rattle.scans.specs.Scans.{decides, further, scanned, Readable, ReadableUnits};
+ghost use Rattle.scans.specs.Parts.{all_of};
 
 pub use clauses::Clauses;
 use literals::{Values, see, slot};
@@ -94,7 +95,7 @@ fn scan_units(values: &Values, assumed: &[u8]) -> Scanned
 
 // The first buffer, then the second, then the assumed literals.
 pub fn scan_all(values: &Values, clauses: Clauses) -> Scanned
-    ensures { result ≡ scanned values.now (clauses_of clauses.entry.first.now clauses.entry.second.now clauses.entry.assumed.now) }
+    ensures { result ≡ scanned values.now (all_of clauses.entry) }
 {
     let one = scan(values, clauses.first);
     if one.decides() {
