@@ -3,6 +3,7 @@ use mathlib.Core.Path.{◌≡◌, refl, sym, ◌∙◌, subst}
 use mathlib.Core.Logic.Iff
 use mathlib.Core.Logic.{◌↔◌}
 use mathlib.Core.Bool.{true, false, true≢false}
+use Rattle.std.specs.Prelude.{Some, None}
 use mathlib.Core.List.{List}
 use Prim.Native.Nat.{ℕ, ◌-◌, ◌^◌, ◌<◌, min}
 use native.Mathlib.Omega.{arith}
@@ -29,8 +30,6 @@ use Rattle.forcing.specs.declared.standing.Standing.{Standing}
 use Rattle.forcing.proofs.ValueLaws.{agrees_opening}
 use Rattle.question.specs.Question.{Meets, Breaks, Says}
 use Rattle.question.specs.Seeking.{Fulfils, Seeks}
-use Rattle.question.specs.declared.Reply.TheVariants.{Yes, No}
-use Rattle.question.specs.declared.seeking.Sought.{Sought}
 use Rattle.question.proofs.Bridge.{rules_true, holds_true}
 
 module _ (g : Setup) (taken : Taken g) (all : ℕ) (every : all ≡ 2 ^ min (count g) settings_most - 1) where
@@ -81,18 +80,16 @@ module _ (g : Setup) (taken : Taken g) (all : ℕ) (every : all ≡ 2 ^ min (cou
       reaches m meets breaks = step.stays m (assigns_full meets.models.assigns) (broken m meets breaks) (agrees m meets start is)
 
       -- the given-up settings cannot be broken
-      pub no_start : forced.fails ≡ true → Says g kept given found No
+      pub no_start : forced.fails ≡ true → Says g kept given found None
       no_start fails m meets breaks = true≢false (sym fails ∙ (reaches m meets breaks).0)
 
-      -- the search fails
-      pub no_model_lem : (sought : Sought) → Seeks (λ m. Fulfils (bit_and kept all) g.hard g.soft found (is_true m)) forced.values sought
-          → sought.fails ≡ true → Says g kept given found No
-      no_model_lem sought told fails m meets breaks =
-          told.fails fails m (assigns_full meets.models.assigns) (reaches m meets breaks).1 (asked m meets)
+      -- the search finds nothing
+      pub no_model_lem : Seeks (λ m. Fulfils (bit_and kept all) g.hard g.soft found (is_true m)) forced.values None → Says g kept given found None
+      no_model_lem none m meets breaks = none m (assigns_full meets.models.assigns) (asked m meets) (reaches m meets breaks).1
 
     -- ---- a model
 
-    module _ (sought : Sought) (w : List ℕ) (completes : Completes sought.values w) where
+    module _ (reached w : List ℕ) (completes : Completes reached w) where
       -- the values of the variables are a model's
       same : (i : ℕ) → i < g.variables → get_or (take g.variables w) i 0 ≡ get_or w i 0
       same i l = get_or-take g.variables w i 0 l
@@ -108,10 +105,9 @@ module _ (g : Setup) (taken : Taken g) (all : ℕ) (every : all ≡ 2 ^ min (cou
       truth : (i : ℕ) → T (holds (is_true w) g.soft i) ↔ ((i < count g) × SettingTrue g (take g.variables w) i)
       truth = holds_true g taken (take g.variables w) w same
 
-      module _ (start : List ℕ) (told : Seeks (λ m. Fulfils (bit_and kept all) g.hard g.soft found (is_true m)) start sought)
-          (finds : sought.fails ≡ false) where
+      module _ (told : (m : List ℕ) → AgreesWith reached m → Fulfils (bit_and kept all) g.hard g.soft found (is_true m)) where
         answer : Fulfils (bit_and kept all) g.hard g.soft found (is_true w)
-        answer = told.finds finds w completes.agrees
+        answer = told w completes.agrees
 
         meets : Meets g kept found (take g.variables w)
         meets = record {
@@ -126,7 +122,7 @@ module _ (g : Setup) (taken : Taken g) (all : ℕ) (every : all ≡ 2 ^ min (cou
               (one.0, k.0, one.1, k.1);
         }
 
-        pub yes_model : (standing : Standing) → Stands w g.soft standing → Says g kept given found (Yes standing.sure)
+        pub yes_model : (standing : Standing) → Stands w g.soft standing → Says g kept given found (Some standing.sure)
         yes_model standing stands = (
           take g.variables w,
           meets,
