@@ -13,7 +13,7 @@ use Rattle.sets.proofs.Tests.{has_in}
 use Rattle.setups.specs.Limits.{settings_most}
 use Rattle.setups.specs.Clauses.{clauses}
 use Rattle.setups.specs.Searching.{free_count}
-use Rattle.found.specs.FoundSets.{Each, Fit}
+use Rattle.found.specs.FoundSets.{Each, Widens, Narrows}
 use Rattle.literals.specs.Slots.{AllSet}
 use Rattle.forcing.specs.Holding.{is_true, may_be, holds}
 use Rattle.forcing.specs.Selectors.{Owing, OwingBoth}
@@ -47,10 +47,6 @@ pub record Keeps (Answer : List ℕ → Type 0) (now r : Progress) : Type 0 wher
   pub moves : now.moved ≡ false → r.moved ≡ true → free_count r.values < free_count now.values
   pub stays : (m : List ℕ) → AllSet m → Answer m → AgreesWith now.values m → AgreesWith r.values m
 
-pub record Widens (kept possible : ℕ) (found : List ℕ) (wider : ℕ) : Type 0 where
-  pub grows : Within kept wider
-  pub stays : (test : ℕ → Bool) → ((i : ℕ) → T (test i) → In i possible) → Fit kept found test → Each wider test
-
 -- END
 
 -- ---- one round
@@ -65,7 +61,7 @@ module _ {kept : ℕ} {hard soft found values : List ℕ} {forced : Progress}
       (subst T (sym (stands.possible i)) (holds_more (is_true m) (may_be forced.values) (true_may forced.values m agrees) soft i t))
 
   -- some found set has no setting left
-  pub advances_dead : ((test : ℕ → Bool) → ((i : ℕ) → T (test i) → In i standing.possible) → ¬ Fit kept found test)
+  pub advances_dead : Narrows kept standing.possible found None
       → Advances kept hard soft found values None
   advances_dead none m d asked agrees = none (holds (is_true m) soft) (possible m (step.stays m d asked agrees)) asked.fit
 

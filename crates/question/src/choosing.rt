@@ -17,8 +17,8 @@ fn pick(values: Values, owed: Owed, clauses: &[u8]) -> Option<u8> {
     let mut due = owes(owed, selector);
     let mut touched = false;
     let mut free = None;
-    for byte in clauses {
-        if *byte == 0 {
+    for &byte in clauses {
+        if byte == 0 {
             if touched && free.is_some() {
                 return free;
             }
@@ -28,10 +28,10 @@ fn pick(values: Values, owed: Owed, clauses: &[u8]) -> Option<u8> {
             touched = false;
             free = None;
         } else if due {
-            let value = values[slot(*byte)];
+            let value = values[slot(byte)];
             if FREE <= value {
-                free = Some(*byte);
-            } else if value == wish(*byte) {
+                free = Some(byte);
+            } else if value == wish(byte) {
                 due = false;
                 free = None;
             } else {
@@ -46,9 +46,9 @@ fn pick(values: Values, owed: Owed, clauses: &[u8]) -> Option<u8> {
 fn tightest(standing: Standing, found: &[Set]) -> Option<Set> {
     found
         .iter()
-        .filter(|set| !meets(**set, standing.sure))
-        .map(|set| *set & standing.possible)
-        .min_by_key(|open| size(*open))
+        .filter(|&&set| !meets(set, standing.sure))
+        .map(|&set| set & standing.possible)
+        .min_by_key(|&open| size(open))
 }
 
 // The lowest free variable, to be tried at 0.
@@ -85,7 +85,7 @@ impl Asked<'_> {
     {
         let values = round.values;
         self.propose(round)
-            .filter(|literal| FREE <= values[slot(*literal)])
+            .filter(|&literal| FREE <= values[slot(literal)])
             .or_else(|| lowest_at_zero(values))
     }
 }

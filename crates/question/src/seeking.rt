@@ -28,13 +28,10 @@ impl Asked<'_> {
             return None;
         }
         let standing = stand(forced.values, self.soft);
-        let narrowed = narrow(kept, standing.possible, self.found);
-        if narrowed.fails {
-            return None;
-        }
+        let wider = narrow(kept, standing.possible, self.found)?;
         Some(Round {
-            moved: forced.moved || narrowed.kept != kept,
-            kept: narrowed.kept,
+            moved: forced.moved || wider != kept,
+            kept: wider,
             standing,
             values: forced.values,
         })

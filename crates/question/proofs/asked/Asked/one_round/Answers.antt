@@ -8,7 +8,7 @@ use Rattle.forcing.specs.Holding.{is_true}
 use Rattle.forcing.specs.Rules.{KeepsAnswers, unmoved}
 use Rattle.forcing.proofs.RuleLaws.{answers_fewer}
 use Rattle.question.specs.Seeking.{Fulfils}
-use Rattle.question.proofs.Rounds.{Keeps, Widens, fulfils_both, advances_dead, advances_round}
+use Rattle.question.proofs.Rounds.{Keeps, fulfils_both, advances_dead, advances_round}
 use Rattle.question.proofs.asked.Asked.one_round.Goals as goal
 use Rattle.question.proofs.asked.Asked.one_round.Goals.{After-force_both-forced, then-forced-2, else-forced-2}
 
@@ -30,16 +30,14 @@ cong_not e = rw e refl
 pub returns-then-forced : goal.returns-then-forced
 returns-then-forced c m d asked agrees = true≢false (sym c.if-forced.true ∙ ((by-force (goal.at.returns-then-forced c).After-force_both-forced).stays m d asked agrees).0)
 
-pub returns-then-narrowed : goal.returns-then-narrowed
-returns-then-narrowed c =
-    advances_dead (keeps (goal.at.returns-then-narrowed c).After-force_both-forced) c.stand-standing.ensures
-    (λ test p fit. true≢false (sym c.if-narrowed.true ∙ (c.narrow-narrowed.ensures.stays test p fit).0))
+pub returns-in_err-wider : goal.returns-in_err-wider
+returns-in_err-wider c =
+    rw c.from_residual.ensures
+    (advances_dead (keeps (goal.at.returns-in_err-wider c).After-force_both-forced) c.stand-standing.ensures c.in_err-wider.ensures)
 
 pub returns : goal.returns
 returns c =
-    let n = c.narrow-narrowed.ensures in
-    let widens : Widens _ _ _ _ = record { grows = n.grows; stays = λ test p fit. (n.stays test p fit).1 } in
-    advances_round (keeps (goal.at.returns c).After-force_both-forced) c.stand-standing.ensures widens _
+    advances_round (keeps (goal.at.returns c).After-force_both-forced) c.stand-standing.ensures c.in_ok-wider.ensures _
     (elim c.if-forced-2.branch [
       | then-forced-2 w ↦ λ t. inl w.if-forced-2.true
       | else-forced-2 w ↦ λ t. inr (λ e. true≢false (sym t ∙ w.result-is ∙ cong_not (eq-eqb _ _ e)))
