@@ -1,13 +1,11 @@
 -- The walk under List (document 01, "Ways out and clashes"): its nodes, what it knows at each, and what it leaves in its places.
-use Rattle.std.specs.Prelude.{◌≡◌, refl, List, [], ◌∷◌, ℕ, suc, ◌+◌, ◌*◌, ◌^◌, ◌≤◌, ◌<◌, min, length}
+use Rattle.std.specs.Prelude.{◌≡◌, refl, List, [], ◌∷◌, ℕ, suc, ◌+◌, ◌*◌, ◌^◌, ◌≤◌, ◌<◌, min, length, Option, Some, None}
 use Rattle.sets.specs.Sets.{Joins, only}
 use Rattle.sets.specs.Lists.{Exactly}
 use Rattle.setups.specs.Limits.{settings_most}
 use Rattle.setups.specs.Setups.{Setup, count, WayOut}
 use Rattle.question.specs.Question.{Meets, Shows}
 use Rattle.walk.specs.declared.Node.{Node}
-use Rattle.walk.specs.declared.Entered.{Entered}
-use Rattle.walk.specs.declared.Entered.TheVariants.{Live, Dead}
 
 -- ---- nodes
 
@@ -61,10 +59,10 @@ pub record Witnessed (g : Setup) (node : Node) (found : List ℕ) : Type 0 where
   pub meets : Meets g node.kept found model
   pub shows : Shows g model node.witness
 
--- The question before a node: the node, live now, or that its branch has no way out.
-abbrev pub Enters : Setup → ℕ → ℕ → List ℕ → Entered → Type 0
-Enters g left given found (Live next) = Witnessed g next found × (next.left ≡ left) × (next.given ≡ given)
-Enters g left given found Dead = ¬ WayOutBetween g given (given + 2 ^ left)
+-- The question before a node: the node, live now; there is none only where its branch has no way out.
+abbrev pub Enters : Setup → ℕ → ℕ → List ℕ → Option Node → Type 0
+Enters g left given found (Some next) = Witnessed g next found × (next.left ≡ left) × (next.given ≡ given)
+Enters g left given found None = ¬ WayOutBetween g given (given + 2 ^ left)
 
 -- ---- what the walk leaves
 

@@ -1,5 +1,4 @@
 -- `Asked::all_rounds` meets its contract: whatever advances to the first round advances to the last.
-use Rattle.std.proofs.Common.{List, ℕ}
 use Rattle.question.specs.Seeking.{AdvancesTo}
 use Rattle.question.proofs.Rounds.{left}
 use Rattle.question.proofs.asked.Asked.all_rounds.Given as goal
