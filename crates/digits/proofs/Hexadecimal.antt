@@ -1,18 +1,19 @@
 -- Digits: which bytes are digits, what a digit's value can be, and that each value comes back from its digit.
-use mathlib.Core.Path.{◌≡◌, ◌∙◌}
+use mathlib.Core.Path.{◌≡◌, refl, ap, ◌∙◌}
 use mathlib.Core.Logic.{by_cases}
-use mathlib.Core.Bool.{true, false, ◌&&◌, and-false}
-use mathlib.Core.List.{List, [], ◌∷◌}
-use Prim.Native.Nat.{ℕ, ◌+◌, ◌/◌, ◌%◌, ◌≤◌, ◌<◌}
+use mathlib.Core.Bool.{Bool, true, false, cond, ◌&&◌, ◌||◌, and-false}
+use mathlib.Core.List.{List, ◌∷◌}
+use Prim.Native.Nat.{ℕ, zero, suc, ◌+◌, ◌-◌, ◌/◌, ◌%◌, ◌^◌, ◌≤◌, ◌<◌}
 use native.Mathlib.Nat.{div-one}
 use native.Mathlib.Decide.{dec_lt}
-use native.Mathlib.Numerals.{add-two, add-four, add_six}
 use native.Mathlib.Omega.{arith}
 use borrow.Author.Tests.{lt-ltb, le-ltb, le-leb, lt-leb}
 use lib.Dec.{leb, leb→le}
-use lib.Seq.{sets}
-use Rattle.numbers.proofs.Deciding.{cond_case, and_right, T_true}
-use Rattle.digits.specs.Digits.{between, numeral, letter, is_digit, digit_value, digit_of, byte_of, digits, bytes_of}
+use Rattle.std.specs.Prelude.{Option, Some, None}
+use Rattle.std.specs.Option.{unwrap_or}
+use Rattle.std.specs.Int.{bytes_high_first}
+use Rattle.numbers.proofs.Deciding.{bool_case, cond_case, and_right, T_true}
+use Rattle.digits.specs.Digits.{between, numeral, letter, is_digit, digit_value, digit_of, byte_of, bytes_of}
 
 -- ---- which bytes are digits
 
@@ -38,9 +39,17 @@ value_below c =
     cond_case (λ (v : ℕ). v < 16) (numeral c) (λ e. let h = most 48 57 c e in omega arith)
     (λ _. cond_case (λ (v : ℕ). v < 16) (letter c) (λ e. let h = most 65 70 c e in omega arith) (λ _. omega arith))
 
--- a number that is a digit's value
-pub a_value_below : (v c : ℕ) → v ≡ digit_value c → v < 16
-a_value_below v c e = omega (arith, value_below c)
+-- the value that is told of a digit, and 0 of any other byte, is its value
+pub value_or_zero : (c : ℕ) → unwrap_or (cond (is_digit c) (Some (digit_value c)) None) 0 ≡ digit_value c
+value_or_zero c =
+    bool_case (λ (n : Bool). unwrap_or (cond (n || letter c) (Some (cond n (c - 48) (cond (letter c) (c - 55) 0))) None) 0 ≡ cond n (c - 48) (cond (letter c) (c - 55) 0)) (numeral c) (λ _. refl)
+    (λ _. bool_case (λ (l : Bool). unwrap_or (cond l (Some (cond l (c - 55) 0)) None) 0 ≡ cond l (c - 55) 0) (letter c) (λ _. refl) (λ _. refl))
+
+-- so it is below 16
+pub a_value_below : (v c : ℕ) (o : Option ℕ) → v ≡ unwrap_or o 0 → o ≡ cond (is_digit c) (Some (digit_value c)) None → (v ≡ digit_value c) × (v < 16)
+a_value_below v c o e q =
+    let is : v ≡ digit_value c = e ∙ ap (λ (p : Option ℕ). unwrap_or p 0) q ∙ value_or_zero c in
+    (is, omega (arith, is, value_below c))
 
 -- ---- a digit's value comes back
 
@@ -75,11 +84,8 @@ byte_back b l = rw ((digit_back (b / 16) (omega arith)).value, (digit_back (b % 
 
 -- ---- a number's bytes
 
--- four bytes written one after the other are the digits of the number
-pub four_bytes : (n at : ℕ) (t t₁ t₂ t₃ t₄ : List ℕ)
-    → t₁ ≡ sets t at (digits (n / 16777216 % 256 ∷ []))
-    → t₂ ≡ sets t₁ (at + 2) (digits (n / 65536 % 256 ∷ []))
-    → t₃ ≡ sets t₂ (at + 4) (digits (n / 256 % 256 ∷ []))
-    → t₄ ≡ sets t₃ (at + 6) (digits (n % 256 ∷ []))
-    → t₄ ≡ sets t at (digits (bytes_of 4 n))
-four_bytes n at t t₁ t₂ t₃ t₄ e₁ e₂ e₃ e₄ = e₄ ∙ rw (e₃, e₂, e₁, add-two, add-four, add_six, div-one n)
+-- what std makes of a number, the high byte first
+pub high_first : (size n : ℕ) → bytes_high_first size n ≡ bytes_of size n
+high_first zero n = refl
+high_first (suc zero) n = rw (div-one n)
+high_first (suc (suc size)) n = ap (λ (bytes : List ℕ). n / 256 ^ suc size % 256 ∷ bytes) (high_first (suc size) n)
