@@ -1,19 +1,16 @@
 -- Digits: which bytes are digits, what a digit's value can be, and that each value comes back from its digit.
-use mathlib.Core.Path.{◌≡◌, refl, ap, ◌∙◌}
+use mathlib.Core.Path.{◌≡◌, refl, ap}
 use mathlib.Core.Logic.{by_cases}
-use mathlib.Core.Bool.{Bool, true, false, cond, ◌&&◌, ◌||◌, and-false}
+use mathlib.Core.Bool.{true, false, and-false}
 use mathlib.Core.List.{List, ◌∷◌}
-use Prim.Native.Nat.{ℕ, zero, suc, ◌+◌, ◌-◌, ◌/◌, ◌%◌, ◌^◌, ◌≤◌, ◌<◌}
+use Prim.Native.Nat.{ℕ, zero, suc, ◌+◌, ◌/◌, ◌%◌, ◌^◌, ◌≤◌, ◌<◌}
 use native.Mathlib.Nat.{div-one}
 use native.Mathlib.Decide.{dec_lt}
 use native.Mathlib.Omega.{arith}
 use borrow.Author.Tests.{lt-ltb, le-ltb, le-leb, lt-leb}
-use lib.Dec.{leb, leb→le}
-use Rattle.std.specs.Prelude.{Option, Some, None}
-use Rattle.std.specs.Option.{unwrap_or}
+use lib.Dec.{leb}
 use Rattle.std.specs.Int.{bytes_high_first}
-use Rattle.numbers.proofs.Deciding.{bool_case, cond_case, and_right, T_true}
-use Rattle.digits.specs.Digits.{between, numeral, letter, is_digit, digit_value, digit_of, byte_of, bytes_of}
+use Rattle.digits.specs.Digits.{between, is_digit, digit_value, digit_of, byte_of, bytes_of}
 
 -- ---- which bytes are digits
 
@@ -28,28 +25,6 @@ below low high c l = rw (lt-leb low c l)
 pub above : (low high c : ℕ) → high < c → between low high c ≡ false
 unfolding between
 above low high c h = rw (lt-leb c high h) (and-false (leb low c))
-
--- what lies between is at most the high end
-most : (low high c : ℕ) → between low high c ≡ true → c ≤ high
-unfolding between
-most low high c e = leb→le c high (and_right (leb low c) (leb c high) ((T_true (leb low c && leb c high)).1 e))
-
-value_below : (c : ℕ) → digit_value c < 16
-value_below c =
-    cond_case (λ (v : ℕ). v < 16) (numeral c) (λ e. let h = most 48 57 c e in omega arith)
-    (λ _. cond_case (λ (v : ℕ). v < 16) (letter c) (λ e. let h = most 65 70 c e in omega arith) (λ _. omega arith))
-
--- the value that is told of a digit, and 0 of any other byte, is its value
-pub value_or_zero : (c : ℕ) → unwrap_or (cond (is_digit c) (Some (digit_value c)) None) 0 ≡ digit_value c
-value_or_zero c =
-    bool_case (λ (n : Bool). unwrap_or (cond (n || letter c) (Some (cond n (c - 48) (cond (letter c) (c - 55) 0))) None) 0 ≡ cond n (c - 48) (cond (letter c) (c - 55) 0)) (numeral c) (λ _. refl)
-    (λ _. bool_case (λ (l : Bool). unwrap_or (cond l (Some (cond l (c - 55) 0)) None) 0 ≡ cond l (c - 55) 0) (letter c) (λ _. refl) (λ _. refl))
-
--- so it is below 16
-pub a_value_below : (v c : ℕ) (o : Option ℕ) → v ≡ unwrap_or o 0 → o ≡ cond (is_digit c) (Some (digit_value c)) None → (v ≡ digit_value c) × (v < 16)
-a_value_below v c o e q =
-    let is : v ≡ digit_value c = e ∙ ap (λ (p : Option ℕ). unwrap_or p 0) q ∙ value_or_zero c in
-    (is, omega (arith, is, value_below c))
 
 -- ---- a digit's value comes back
 

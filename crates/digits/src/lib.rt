@@ -34,6 +34,7 @@ pub fn digit_of(value: u8) -> u8
 }
 
 // The byte whose two digits stand at `at`; what is no digit counts as 0.
+#[tactic(auto, unfolding(crate::specs::Digits::between))]
 pub fn byte_at(text: &[u8], at: usize) -> u8
     requires { at + 1 < length text.now }
     ensures { result ≡ byte_of (get_or text.now at 0) (get_or text.now (at + 1) 0) }
