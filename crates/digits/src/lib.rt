@@ -20,6 +20,14 @@ pub fn digit_value(byte: u8) -> Option<u8>
     }
 }
 
+// The byte is one of 0-9 and A-F.
+#[tactic(auto, unfolding(crate::specs::Digits::between))]
+pub fn is_digit(byte: u8) -> bool
+    ensures { result ≡ is_digit byte }
+{
+    digit_value(byte).is_some()
+}
+
 // The digit of a value.
 #[tactic(auto, unfolding(crate::specs::Digits::digit_of))]
 pub fn digit_of(value: u8) -> u8
