@@ -2,7 +2,6 @@
 use mathlib.Core.Path.{◌≡◌, refl, sym, ◌∙◌, subst}
 use mathlib.Core.Logic.Iff
 use mathlib.Core.Logic.{◌↔◌}
-use mathlib.Core.Bool.{true, false, true≢false}
 use Rattle.std.specs.Prelude.{Some, None}
 use mathlib.Core.List.{List}
 use Prim.Native.Nat.{ℕ, ◌-◌, ◌^◌, ◌<◌, min}
@@ -23,7 +22,7 @@ use Rattle.literals.specs.Slots.{opening}
 use Rattle.setups.proofs.Models.{assigns_full}
 use Rattle.forcing.specs.Holding.{is_true, holds, AllBroken}
 use Rattle.forcing.specs.Values.{AgreesWith, Completes}
-use Rattle.forcing.specs.Rules.{KeepsAnswers, unmoved}
+use Rattle.forcing.specs.Rules.{Keeps, KeepsAnswers, unmoved}
 use Rattle.forcing.specs.Standings.{Stands}
 use Rattle.forcing.specs.declared.forcing.Progress.{Progress}
 use Rattle.forcing.specs.declared.standing.Standing.{Standing}
@@ -74,18 +73,17 @@ module _ (g : Setup) (taken : Taken g) (all : ℕ) (every : all ≡ 2 ^ min (cou
       broken : Breaks g given m → AllBroken (bit_and given all) (is_true m) g.soft
       broken breaks i h t = let k = (there given i).0 h in breaks i k.1 k.0 ((truly i).0 t).1
 
-    module _ (start : List ℕ) (is : start ≡ opening g.variables) (forced : Progress)
-        (step : KeepsAnswers (λ m. AllBroken (bit_and given all) (is_true m) g.soft) (unmoved start) forced) where
-      reaches : (m : List ℕ) (meets : Meets g kept found m) → Breaks g given m → (forced.fails ≡ false) × AgreesWith forced.values m
-      reaches m meets breaks = step.stays m (assigns_full meets.models.assigns) (broken m meets breaks) (agrees m meets start is)
-
+    module _ (start : List ℕ) (is : start ≡ opening g.variables) where
       -- the given-up settings cannot be broken
-      pub no_start : forced.fails ≡ true → Says g kept given found None
-      no_start fails m meets breaks = true≢false (sym fails ∙ (reaches m meets breaks).0)
+      pub no_start : KeepsAnswers (λ m. AllBroken (bit_and given all) (is_true m) g.soft) (unmoved start) None → Says g kept given found None
+      no_start none m meets breaks = none m (assigns_full meets.models.assigns) (broken m meets breaks) (agrees m meets start is)
 
-      -- the search finds nothing
-      pub no_model_lem : Seeks (λ m. Fulfils (bit_and kept all) g.hard g.soft found (is_true m)) forced.values None → Says g kept given found None
-      no_model_lem none m meets breaks = none m (assigns_full meets.models.assigns) (asked m meets) (reaches m meets breaks).1
+      -- they can, and the search finds nothing
+      pub no_model_lem : {forced : Progress} → Keeps (λ m. AllBroken (bit_and given all) (is_true m) g.soft) (unmoved start) forced
+          → Seeks (λ m. Fulfils (bit_and kept all) g.hard g.soft found (is_true m)) forced.values None → Says g kept given found None
+      no_model_lem step none m meets breaks =
+          let full = assigns_full meets.models.assigns in
+          none m full (asked m meets) (step.stays m full (broken m meets breaks) (agrees m meets start is))
 
     -- ---- a model
 

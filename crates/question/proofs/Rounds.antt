@@ -4,7 +4,7 @@ use mathlib.Core.Logic.{◌≢◌, ◌⊎◌, ⊎_elim}
 use Rattle.std.specs.Prelude.{Option, Some, None}
 use mathlib.Core.Bool.{Bool, true, false, cond}
 use mathlib.Core.List.{List}
-use Prim.Native.Nat.{ℕ, ◌+◌, ◌-◌, ◌*◌, ◌^◌, ◌≤◌, ◌<◌, min}
+use Prim.Native.Nat.{ℕ, ◌+◌, ◌-◌, ◌*◌, ◌^◌, ◌<◌, min}
 use native.Mathlib.Omega.{arith}
 use lib.Dec.{T}
 use Rattle.sets.specs.Sets.{In, Within}
@@ -18,10 +18,9 @@ use Rattle.literals.specs.Slots.{AllSet}
 use Rattle.forcing.specs.Holding.{is_true, may_be, holds}
 use Rattle.forcing.specs.Selectors.{Owing, OwingBoth}
 use Rattle.forcing.specs.Values.{AgreesWith}
-use Rattle.forcing.specs.Rules.{unmoved}
+use Rattle.forcing.specs.Rules.{unmoved, Keeps, KeepsAnswers}
 use Rattle.forcing.specs.Standings.{Stands}
 use Rattle.forcing.specs.declared.forcing.Progress.{Progress}
-use Rattle.forcing.specs.declared.selectors.Owed.TheVariants.{OfSettings}
 use Rattle.forcing.specs.declared.standing.Standing.{Standing}
 use Rattle.forcing.proofs.Verdicts.{verdict_clause, verdict_holds}
 use Rattle.question.specs.Seeking.{Fulfils, NoneAgrees, AdvancesTo, Advances}
@@ -31,54 +30,52 @@ use Rattle.question.proofs.TestLaws.{holds_more, each_passes, true_may}
 -- ---- what is asked, as the passes take it
 
 -- each kept setting's clause is owed, and each hard clause
-pub fulfils_both : {kept : ℕ} {hard soft found : List ℕ} {test : ℕ → Bool} → kept < 2 ^ settings_most → Fulfils kept hard soft found test
+fulfils_both : {kept : ℕ} {hard soft found : List ℕ} {test : ℕ → Bool} → kept < 2 ^ settings_most → Fulfils kept hard soft found test
     → OwingBoth kept test hard soft
 fulfils_both {kept} {hard} {soft} {test = test} small asked = record { keeps = keeps; rules = λ i l h. each_passes test (clauses hard) asked.rules i l }
   where
-    keeps : Owing (OfSettings kept) test soft
+    keeps : Owing (λ n. In n kept) test soft
     keeps i l h =
         let e : min i settings_most ≡ i = let k = in_below settings_most small h in omega arith in
         let held = asked.fit.keeps i (subst (λ (x : ℕ). In x kept) e h) in
         subst T (verdict_clause test (clauses soft) i) ((verdict_holds test soft i).0 held).1
 
--- TEMP
-pub record Keeps (Answer : List ℕ → Type 0) (now r : Progress) : Type 0 where
-  pub less : free_count r.values ≤ free_count now.values
-  pub moves : now.moved ≡ false → r.moved ≡ true → free_count r.values < free_count now.values
-  pub stays : (m : List ℕ) → AllSet m → Answer m → AgreesWith now.values m → AgreesWith r.values m
-
--- END
-
 -- ---- one round
 
-module _ {kept : ℕ} {hard soft found values : List ℕ} {forced : Progress}
-    (step : Keeps (λ m. Fulfils kept hard soft found (is_true m)) (unmoved values) forced)
-    {standing : Standing} (stands : Stands forced.values soft standing) where
-  -- what holds in the end is possible
-  possible : (m : List ℕ) → AgreesWith forced.values m → (i : ℕ) → T (holds (is_true m) soft i) → In i standing.possible
-  possible m agrees i t =
-      has_in standing.possible i
-      (subst T (sym (stands.possible i)) (holds_more (is_true m) (may_be forced.values) (true_may forced.values m agrees) soft i t))
+-- what holds in the end is possible
+possible : {values soft : List ℕ} {standing : Standing} → Stands values soft standing → (m : List ℕ) → AgreesWith values m → (i : ℕ)
+    → T (holds (is_true m) soft i) → In i standing.possible
+possible {values} {soft} {standing} stands m agrees i t =
+    has_in standing.possible i (subst T (sym (stands.possible i)) (holds_more (is_true m) (may_be values) (true_may values m agrees) soft i t))
 
-  -- some found set has no setting left
-  pub advances_dead : Narrows kept standing.possible found None
-      → Advances kept hard soft found values None
-  advances_dead none m d asked agrees = none (holds (is_true m) soft) (possible m (step.stays m d asked agrees)) asked.fit
+module _ {kept : ℕ} {hard soft found : List ℕ} (values : List ℕ) (small : kept < 2 ^ settings_most) where
+  -- a clause can't be met
+  pub advances_stuck : KeepsAnswers (λ m. OwingBoth kept (is_true m) hard soft) (unmoved values) None → Advances kept hard soft found values None
+  advances_stuck none m d asked = none m d (fulfils_both small asked)
 
-  -- each has one, and `moved` where a value was forced or more is kept
-  pub advances_round : {wider : ℕ} → Widens kept standing.possible found wider → (moved : Bool)
-      → (moved ≡ true → (forced.moved ≡ true) ⊎ (wider ≢ kept))
-      → Advances kept hard soft found values (Some (record { moved = moved; kept = wider; standing = standing; values = forced.values }))
-  advances_round {wider} widens moved why = record {
-    less = step.less;
-    grows = widens.grows;
-    moves = λ t.
-        let more = within_le kept wider widens.grows in
-        ⊎_elim (λ e. omega (arith, step.moves refl e, more)) (λ n. omega (arith, step.less, more)) (why t);
-    stands = stands;
-    stays = λ m d asked agrees.
-        let was = step.stays m d asked agrees in (was, widens.stays (holds (is_true m) soft) (possible m was) asked.fit);
-  }
+  module _ {forced : Progress} (step : Keeps (λ m. OwingBoth kept (is_true m) hard soft) (unmoved values) forced)
+      {standing : Standing} (stands : Stands forced.values soft standing) where
+    still : (m : List ℕ) → AllSet m → Fulfils kept hard soft found (is_true m) → AgreesWith values m → AgreesWith forced.values m
+    still m d asked = step.stays m d (fulfils_both small asked)
+
+    -- some found set has no setting left
+    pub advances_dead : Narrows kept standing.possible found None → Advances kept hard soft found values None
+    advances_dead none m d asked agrees = none (holds (is_true m) soft) (possible stands m (still m d asked agrees)) asked.fit
+
+    -- each has one, and it has moved where a value was forced or more is kept
+    pub advances_round : {wider : ℕ} → Widens kept standing.possible found wider → (moved : Bool)
+        → (moved ≡ true → (forced.moved ≡ true) ⊎ (wider ≢ kept))
+        → Advances kept hard soft found values (Some (record { moved = moved; kept = wider; standing = standing; values = forced.values }))
+    advances_round {wider} widens moved why = record {
+      less = step.less;
+      grows = widens.grows;
+      moves = λ t.
+          let more = within_le kept wider widens.grows in
+          ⊎_elim (λ e. omega (arith, step.moves refl e, more)) (λ n. omega (arith, step.less, more)) (why t);
+      stands = stands;
+      stays = λ m d asked agrees.
+          let was = still m d asked agrees in (was, widens.stays (holds (is_true m) soft) (possible stands m was) asked.fit);
+    }
 
 -- ---- one round after another
 

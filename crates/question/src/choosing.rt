@@ -3,18 +3,20 @@ ghost use Rattle.question.specs.Seeking.{Chosen};
 
 use crate::asked::Asked;
 use crate::seeking::Round;
-use forcing::{FIRST_SELECTOR, Owed, Standing, next_selector, owes};
-use literals::{FREE, FirstFree, Values, lowest_free, slot, wish};
-use numbers::NEGATED;
+use forcing::{FIRST_SELECTOR, Standing, has_selector, next_selector};
+use literals::{FREE, Values, lowest_free, slot, wish};
+use numbers::{NEGATED, Selector};
 use sets::{EMPTY, Set, meets, size};
 
-// A literal of the first open clause that has a false literal, or else of the first open clause: one that has to be true, has no true
-// literal and has a free one. Clauses that nothing touches come last, so that variables of their own don't multiply the work of the others.
-fn pick(values: Values, owed: Owed, clauses: &[u8]) -> Option<u8> {
+// A literal of the first open clause that has a false literal, or else of the first open clause: one that is owed, has no true literal
+// and has a free one. Clauses that nothing touches come last, so that variables of their own don't multiply the work of the others.
+fn pick<F: Fn(Selector) -> bool>(values: Values, owed: F, clauses: &[u8]) -> Option<u8>
+    requires { F.IsAlwaysCallable owed }
+{
     let mut untouched = None;
     let mut selector = FIRST_SELECTOR;
     // Of the clause so far: whether it has to be true and has no true literal; whether it has a false one; and a free one, while it is due.
-    let mut due = owes(owed, selector);
+    let mut due = owed(selector);
     let mut touched = false;
     let mut free = None;
     for &byte in clauses {
@@ -24,7 +26,7 @@ fn pick(values: Values, owed: Owed, clauses: &[u8]) -> Option<u8> {
             }
             untouched = untouched.or(free);
             selector = next_selector(selector);
-            due = owes(owed, selector);
+            due = owed(selector);
             touched = false;
             free = None;
         } else if due {
@@ -55,10 +57,8 @@ fn tightest(standing: Standing, found: &[Set]) -> Option<Set> {
 fn lowest_at_zero(values: Values) -> Option<u8>
     ensures { Chosen values result }
 {
-    match lowest_free(values) {
-        FirstFree::At(variable) => Some(NEGATED + variable.0),
-        FirstFree::NoneFree => None,
-    }
+    let variable = lowest_free(values)?;
+    Some(NEGATED + variable.0)
 }
 
 impl Asked<'_> {
@@ -74,8 +74,14 @@ impl Asked<'_> {
     // A literal of a setting to make true, and where there is none, of a hard clause.
     fn propose(&self, round: Round) -> Option<u8> {
         match self.aim(round) {
-            Some(wanted) => pick(round.values, Owed::OfSettings(wanted), self.soft),
-            None => pick(round.values, Owed::EveryClause, self.hard),
+            Some(wanted) => {
+                pick(
+                    round.values,
+                    |selector| has_selector(wanted, selector),
+                    self.soft,
+                )
+            }
+            None => pick(round.values, |_| true, self.hard),
         }
     }
 

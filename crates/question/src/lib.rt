@@ -19,10 +19,7 @@ pub fn question(taken: &TakenSetup, kept: Set, given: Set, found: &[Set]) -> Opt
     ensures { Says (setup_of taken.now) kept given found.now result }
 {
     let all = full(taken.settings);
-    let start = give_up(opening(taken.variables), given & all, taken.soft);
-    if start.fails {
-        return None;
-    }
+    let start = give_up(opening(taken.variables), given & all, taken.soft)?;
     let asked = Asked {
         hard: taken.hard,
         soft: taken.soft,

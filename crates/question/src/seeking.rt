@@ -23,10 +23,7 @@ impl Asked<'_> {
     fn one_round(&self, values: Values, kept: Set) -> Option<Round>
         ensures { Advances kept self.now.hard.now self.now.soft.now self.now.found.now values result }
     {
-        let forced = force_both(values, kept, self.hard, self.soft);
-        if forced.fails {
-            return None;
-        }
+        let forced = force_both(values, kept, self.hard, self.soft)?;
         let standing = stand(forced.values, self.soft);
         let wider = narrow(kept, standing.possible, self.found)?;
         Some(Round {

@@ -12,18 +12,19 @@ use Rattle.question.proofs.question.Goals.{After-full-all}
 every : (c : After-full-all) → c.full-all.result ≡ 2 ^ min (count (setup_of c.args.taken.now)) settings_most - 1
 every c = c.full-all.ensures ∙ ap (λ (x : ℕ). 2 ^ min x settings_most - 1) c.args.taken.now.counted
 
-pub give_up-start-requires : goal.give_up-start-requires
-give_up-start-requires c =
-    given_below _ c.args.taken.now.taken _ (every (goal.at.give_up-start-requires c).After-full-all) c.args.given
+pub give_up-requires : goal.give_up-requires
+give_up-requires c =
+    given_below _ c.args.taken.now.taken _ (every (goal.at.give_up-requires c).After-full-all) c.args.given
 
-pub returns-then-start : goal.returns-then-start
-returns-then-start c =
-    no_start _ c.args.taken.now.taken _ (every (goal.at.returns-then-start c).After-full-all) _ _ _ _ c.opening.ensures _ c.give_up-start.ensures c.if-start.true
+pub returns-in_err-start : goal.returns-in_err-start
+returns-in_err-start c =
+    rw c.from_residual.ensures
+    (no_start _ c.args.taken.now.taken _ (every (goal.at.returns-in_err-start c).After-full-all) _ _ _ _ c.opening.ensures c.in_err-start.ensures)
 
 pub returns-in_err-reached : goal.returns-in_err-reached
 returns-in_err-reached c =
-    rw c.from_residual.ensures
-    (no_model_lem _ c.args.taken.now.taken _ (every (goal.at.returns-in_err-reached c).After-full-all) _ _ _ _ c.opening.ensures _ c.give_up-start.ensures
+    rw c.from_residual-in_err-reached.ensures
+    (no_model_lem _ c.args.taken.now.taken _ (every (goal.at.returns-in_err-reached c).After-full-all) _ _ _ _ c.opening.ensures c.in_ok-start.ensures
     c.in_err-reached.ensures)
 
 pub returns : goal.returns
