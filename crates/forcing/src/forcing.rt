@@ -19,66 +19,74 @@ pub struct Progress {
     pub values: Values,
 }
 
-// A clause ends that has to be true: it fails where it is wholly false, and makes its one free literal true.
-fn end_clause(earlier: Progress, seen: Seen) -> Option<Progress>
-    requires { StillFree earlier.values seen }
-    ensures { KeepsAnswers (λ m. EndsTrue m seen) earlier result }
-{
-    match seen {
-        Seen::AllFalse => None,
-        Seen::OneFree(literal) => Some(Progress {
-            moved: true,
-            values: with_true(earlier.values, literal),
-        }),
-        Seen::Enough => Some(earlier),
-    }
-}
-
-// One pass over the clauses, of which those have to be true whose selector is due; it goes on after a forced literal.
-fn force<F: Fn(Selector) -> bool>(earlier: Progress, due: F, clauses: &[u8]) -> Option<Progress>
-    requires { F.IsAlwaysCallable due }
-    ensures { KeepsAnswers (λ m. Owing (λ n. F.post due (record { 0 = n }) true) (is_true m) clauses.now) earlier result }
-{
-    let mut forced = earlier;
-    let mut seen = Seen::AllFalse;
-    let mut selector = FIRST_SELECTOR;
-    for &byte in clauses {
-        if byte == 0 {
-            if due(selector) {
-                forced = end_clause(forced, seen)?;
-            }
-            seen = Seen::AllFalse;
-            selector = next_selector(selector);
-        } else {
-            seen = see(seen, byte, forced.values[slot(byte)]);
+impl Progress {
+    // Where the rules start from.
+    fn start(values: Values) -> Progress
+        ensures { result ≡ unmoved values }
+    {
+        Progress {
+            moved: false,
+            values,
         }
     }
-    Some(forced)
+
+    // A clause ends that has to be true: it fails where it is wholly false, and makes its one free literal true.
+    fn end_clause(self, seen: Seen) -> Option<Progress>
+        requires { StillFree self.values seen }
+        ensures { KeepsAnswers (λ m. EndsTrue m seen) self result }
+    {
+        match seen {
+            Seen::AllFalse => None,
+            Seen::OneFree(literal) => Some(Progress {
+                moved: true,
+                values: with_true(self.values, literal),
+            }),
+            Seen::Enough => Some(self),
+        }
+    }
+
+    // One pass over the clauses, of which those have to be true whose selector is due; it goes on after a forced literal.
+    fn force<F: Fn(Selector) -> bool>(self, due: F, clauses: &[u8]) -> Option<Progress>
+        requires { F.IsAlwaysCallable due }
+        ensures { KeepsAnswers (λ m. Owing (λ n. F.post due (record { 0 = n }) true) (is_true m) clauses.now) self result }
+    {
+        let mut forced = self;
+        let mut seen = Seen::AllFalse;
+        let mut selector = FIRST_SELECTOR;
+        for &byte in clauses {
+            if byte == 0 {
+                if due(selector) {
+                    forced = forced.end_clause(seen)?;
+                }
+                seen = Seen::AllFalse;
+                selector = next_selector(selector);
+            } else {
+                seen = see(seen, byte, forced.values[slot(byte)]);
+            }
+        }
+        Some(forced)
+    }
+
+    // The literal has to be false.
+    fn deny(self, literal: u8) -> Option<Progress>
+        ensures { KeepsAnswers (λ m. is_true m literal ≡ false) self result }
+    {
+        if self.values[slot(literal)] == wish(literal) {
+            return None;
+        }
+        Some(Progress {
+            values: with_false(self.values, literal),
+            ..self
+        })
+    }
 }
 
 // The kept settings, then the hard clauses.
 pub fn force_both(values: Values, kept: Set, hard: &[u8], soft: &[u8]) -> Option<Progress>
     ensures { KeepsAnswers (λ m. OwingBoth kept (is_true m) hard.now soft.now) (unmoved values) result }
 {
-    let start = Progress {
-        moved: false,
-        values,
-    };
-    let keeps = force(start, |selector| has_selector(kept, selector), soft)?;
-    force(keeps, |_| true, hard)
-}
-
-// The literal has to be false.
-fn deny(earlier: Progress, literal: u8) -> Option<Progress>
-    ensures { KeepsAnswers (λ m. is_true m literal ≡ false) earlier result }
-{
-    if earlier.values[slot(literal)] == wish(literal) {
-        return None;
-    }
-    Some(Progress {
-        moved: earlier.moved,
-        values: with_false(earlier.values, literal),
-    })
+    let keeps = Progress::start(values).force(|selector| has_selector(kept, selector), soft)?;
+    keeps.force(|_| true, hard)
 }
 
 // Each literal of a given-up setting has to be false.
@@ -86,16 +94,13 @@ pub fn give_up(values: Values, given: Set, soft: &[u8]) -> Option<Progress>
     requires { given < 2 ^ length (settings soft.now) }
     ensures { KeepsAnswers (λ m. AllBroken given (is_true m) soft.now) (unmoved values) result }
 {
-    let mut forced = Progress {
-        moved: false,
-        values,
-    };
+    let mut forced = Progress::start(values);
     let mut selector = FIRST_SELECTOR;
     for &byte in soft {
         if byte == 0 {
             selector = next_selector(selector);
         } else if has_selector(given, selector) {
-            forced = deny(forced, byte)?;
+            forced = forced.deny(byte)?;
         }
     }
     Some(forced)

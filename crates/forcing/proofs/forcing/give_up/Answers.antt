@@ -10,7 +10,7 @@ use Rattle.forcing.proofs.forcing.give_up.Goals as goal
 use Rattle.forcing.proofs.forcing.give_up.Goals.{then-byte-eq0, else-byte-eq0+then-has_selector+in_ok-forced, else-byte-eq0+else-has_selector}
 
 pub loop-byte-init : goal.loop-byte-init
-loop-byte-init c = giving_starts refl
+loop-byte-init c = rw c.start-forced.ensures (giving_starts refl)
 
 pub returns-in_err-forced : goal.returns-in_err-forced
 returns-in_err-forced c =

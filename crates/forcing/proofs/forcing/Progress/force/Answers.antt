@@ -1,10 +1,10 @@
--- `forcing::force` meets its contract: the clauses that are passed have been put to use, and those from here on are still due.
+-- `Progress::force` meets its contract: the clauses that are passed have been put to use, and those from here on are still due.
 use mathlib.Core.Path.{refl, ap, ◌∙◌}
 use Rattle.std.specs.Prelude.{Some, None}
 use Rattle.numbers.specs.declared.Selector.{Selector}
 use Rattle.forcing.proofs.ForcingLaws.{forcing_starts, forcing_reads, forcing_on, forcing_ends}
-use Rattle.forcing.proofs.forcing.force.Goals as goal
-use Rattle.forcing.proofs.forcing.force.Goals.{then-byte-eq0, then-due+in_ok-forced, else-due, else-byte-eq0}
+use Rattle.forcing.proofs.forcing.Progress.force.Goals as goal
+use Rattle.forcing.proofs.forcing.Progress.force.Goals.{then-byte-eq0, then-due+in_ok-forced, else-due, else-byte-eq0}
 
 pub loop-byte-init : goal.loop-byte-init
 loop-byte-init g c = forcing_starts refl
