@@ -10,12 +10,13 @@ use Rattle.literals.specs.Slots.{slot, AllSet}
 use Rattle.forcing.specs.Holding.{is_true, holds}
 use Rattle.forcing.specs.Values.{AgreesWith}
 use Rattle.forcing.specs.Standings.{Stands}
+use Rattle.question.specs.declared.asked.Asked.{Asked}
 use Rattle.question.specs.declared.seeking.Round.{Round}
 
 -- the hard clauses pass, each kept setting holds, and of each found set one setting
-pub record Fulfils (kept : ℕ) (hard soft found : List ℕ) (test : ℕ → Bool) : Type 0 where
-  pub rules : T (all_pass test (clauses hard))
-  pub fit : Fit kept found (holds test soft)
+pub record Fulfils (asked : Asked) (kept : ℕ) (test : ℕ → Bool) : Type 0 where
+  pub rules : T (all_pass test (clauses asked.hard.now))
+  pub fit : Fit kept asked.found.now (holds test asked.soft.now)
 
 -- no assignment that agrees with the values is an answer
 abbrev pub NoneAgrees : (List ℕ → Type 0) → List ℕ → Type 0
@@ -23,23 +24,23 @@ NoneAgrees Answer values = (m : List ℕ) → AllSet m → Answer m → ¬ Agree
 
 -- From the values and the kept settings to those of r: what meets what is asked and agrees with the values agrees with those of r and
 -- makes its kept settings true. Where r has moved, fewer values are free or more settings are kept.
-pub record AdvancesTo (kept : ℕ) (hard soft found values : List ℕ) (r : Round) : Type 0 where
+pub record AdvancesTo (asked : Asked) (kept : ℕ) (values : List ℕ) (r : Round) : Type 0 where
   pub less : free_count r.values ≤ free_count values
   pub grows : Within kept r.kept
   pub moves : r.moved ≡ true → free_count r.values + kept < free_count values + r.kept
-  pub stands : Stands r.values soft r.standing
-  pub stays : (m : List ℕ) → AllSet m → Fulfils kept hard soft found (is_true m) → AgreesWith values m
-      → AgreesWith r.values m × Each r.kept (holds (is_true m) soft)
+  pub stands : Stands r.values asked.soft.now r.standing
+  pub stays : (m : List ℕ) → AllSet m → Fulfils asked kept (is_true m) → AgreesWith values m
+      → AgreesWith r.values m × Each r.kept (holds (is_true m) asked.soft.now)
 
 -- None only where nothing that agrees with the values meets what is asked
-abbrev pub Advances : ℕ → List ℕ → List ℕ → List ℕ → List ℕ → Option Round → Type 0
-Advances kept hard soft found values (Some r) = AdvancesTo kept hard soft found values r
-Advances kept hard soft found values None = NoneAgrees (λ m. Fulfils kept hard soft found (is_true m)) values
+abbrev pub Advances : Asked → ℕ → List ℕ → Option Round → Type 0
+Advances asked kept values (Some r) = AdvancesTo asked kept values r
+Advances asked kept values None = NoneAgrees (λ m. Fulfils asked kept (is_true m)) values
 
--- what is asked is met so far, where the settings of `sure` are true
-pub record Done (kept sure : ℕ) (values hard found : List ℕ) : Type 0 where
-  pub rules : T (all_pass (is_true values) (clauses hard))
-  pub fit : Fit kept found (has sure)
+-- what is asked is met so far: the settings that are true already suffice
+pub record Done (asked : Asked) (r : Round) : Type 0 where
+  pub rules : T (all_pass (is_true r.values) (clauses asked.hard.now))
+  pub fit : Fit r.kept asked.found.now (has r.standing.sure)
 
 -- the variable is free; there is none only where no variable is free
 abbrev pub Chosen : List ℕ → Option ℕ → Type 0

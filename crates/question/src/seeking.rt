@@ -21,7 +21,7 @@ pub struct Round {
 impl Asked<'_> {
     // Each rule once: the kept settings, the hard clauses, the found sets. None where one of them can't be met.
     fn one_round(&self, values: Values, kept: Set) -> Option<Round>
-        ensures { Advances kept self.now.hard.now self.now.soft.now self.now.found.now values result }
+        ensures { Advances self.now kept values result }
     {
         let forced = force_both(values, kept, self.hard, self.soft)?;
         let standing = stand(forced.values, self.soft);
@@ -36,7 +36,7 @@ impl Asked<'_> {
 
     // Rounds until one makes no difference.
     pub fn all_rounds(&self, values: Values, kept: Set) -> Option<Round>
-        ensures { Advances kept self.now.hard.now self.now.soft.now self.now.found.now values result }
+        ensures { Advances self.now kept values result }
     {
         let mut last = self.one_round(values, kept)?;
         while last.moved {
@@ -47,14 +47,14 @@ impl Asked<'_> {
 
     // What is asked is met, whatever the free values become.
     fn done(&self, round: Round) -> bool
-        ensures { (result ≡ true) ↔ Done round.kept round.standing.sure round.values self.now.hard.now self.now.found.now }
+        ensures { (result ≡ true) ↔ Done self.now round }
     {
         fits(round.kept, round.standing.sure, self.found) && met(round.values, self.hard)
     }
 
     // Values with which what is asked is met, whatever the free ones become: one side of a split after the other.
     pub fn seek(&self, values: Values, kept: Set) -> Option<Values>
-        ensures { Seeks (λ m. Fulfils kept self.now.hard.now self.now.soft.now self.now.found.now (is_true m)) values result }
+        ensures { Seeks (λ m. Fulfils self.now kept (is_true m)) values result }
     {
         let last = self.all_rounds(values, kept)?;
         if self.done(last) {

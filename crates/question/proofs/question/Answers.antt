@@ -14,19 +14,19 @@ every c = c.full-all.ensures ∙ ap (λ (x : ℕ). 2 ^ min x settings_most - 1) 
 
 pub give_up-requires : goal.give_up-requires
 give_up-requires c =
-    given_below _ c.args.taken.now.taken _ (every (goal.at.give_up-requires c).After-full-all) c.args.given
+    given_below c.args.taken.now c.args.found _ (every (goal.at.give_up-requires c).After-full-all) c.args.given
 
 pub returns-in_err-start : goal.returns-in_err-start
 returns-in_err-start c =
     rw c.from_residual.ensures
-    (no_start _ c.args.taken.now.taken _ (every (goal.at.returns-in_err-start c).After-full-all) _ _ _ _ c.opening.ensures c.in_err-start.ensures)
+    (no_start c.args.taken.now c.args.found _ (every (goal.at.returns-in_err-start c).After-full-all) _ _ _ c.opening.ensures c.in_err-start.ensures)
 
 pub returns-in_err-reached : goal.returns-in_err-reached
 returns-in_err-reached c =
     rw c.from_residual-in_err-reached.ensures
-    (no_model_lem _ c.args.taken.now.taken _ (every (goal.at.returns-in_err-reached c).After-full-all) _ _ _ _ c.opening.ensures c.in_ok-start.ensures
+    (no_model_lem c.args.taken.now c.args.found _ (every (goal.at.returns-in_err-reached c).After-full-all) _ _ _ c.opening.ensures c.in_ok-start.ensures
     c.in_err-reached.ensures)
 
 pub returns : goal.returns
 returns c =
-    yes_model _ c.args.taken.now.taken _ (every (goal.at.returns c).After-full-all) _ c.args.given _ _ _ c.complete.ensures c.in_ok-reached.ensures _ c.stand.ensures
+    yes_model c.args.taken.now c.args.found _ (every (goal.at.returns c).After-full-all) _ c.args.given _ _ c.complete.ensures c.in_ok-reached.ensures _ c.stand.ensures

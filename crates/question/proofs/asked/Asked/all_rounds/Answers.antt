@@ -5,5 +5,5 @@ use Rattle.question.proofs.asked.Asked.all_rounds.Goals as goal
 
 pub loop-last-smaller : goal.loop-last-smaller
 loop-last-smaller c =
-    left_less _ _ _ c.loop-last.last c.in_ok-last-2.last c.loop-last-test.true (omega arith)
+    left_less _ c.loop-last.last c.in_ok-last-2.last c.loop-last-test.true (omega arith)
     c.in_ok-last-2.ensures

@@ -4,7 +4,7 @@ use Rattle.question.proofs.Rounds.{left}
 use Rattle.question.proofs.asked.Asked.all_rounds.Given as goal
 
 abbrev pub invariant-loop-last : goal.invariant-loop-last
-invariant-loop-last l = AdvancesTo l.fn.kept l.self.hard.now l.self.soft.now l.self.found.now l.fn.values l.last
+invariant-loop-last l = AdvancesTo l.self l.fn.kept l.fn.values l.last
 
 abbrev pub decreases-loop-last : goal.decreases-loop-last
 decreases-loop-last l = left l.last
