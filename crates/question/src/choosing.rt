@@ -73,16 +73,14 @@ impl Asked<'_> {
 
     // A literal of a setting to make true, and where there is none, of a hard clause.
     fn propose(&self, round: Round) -> Option<u8> {
-        match self.aim(round) {
-            Some(wanted) => {
-                pick(
-                    round.values,
-                    |selector| has_selector(wanted, selector),
-                    self.soft,
-                )
-            }
-            None => pick(round.values, |_| true, self.hard),
-        }
+        let Some(wanted) = self.aim(round) else {
+            return pick(round.values, |_| true, self.hard);
+        };
+        pick(
+            round.values,
+            |selector| has_selector(wanted, selector),
+            self.soft,
+        )
     }
 
     // What is proposed, if its variable is free.
