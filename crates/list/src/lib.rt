@@ -11,7 +11,7 @@ ghost use Rattle.list.specs.Listing.{Lists};
 use checks::first_refusal;
 use sets::{EMPTY, Set};
 use setups::{Refusal, TakenSetup};
-use walk::{Node, enter, walk};
+use walk::{Node, WaysOut, enter, walk};
 
 // What List answers: how many ways out it has listed, or that the hard clauses have no model.
 #[derive(Clone, Copy)]
@@ -31,14 +31,19 @@ fn give_out(taken: &TakenSetup, list: &mut [Set], found: &mut [Set]) -> Result<L
         kept: EMPTY,
         witness: EMPTY,
     };
-    let Some(live) = enter(taken, root, &found[..0]) else {
+    let Some(live) = enter(taken, root, &[]) else {
         return Ok(Listing::Unmet);
     };
-    let filled = walk(taken, live, found, 0);
+    let mut ways = WaysOut {
+        places: found,
+        filled: 0,
+    };
+    walk(taken, live, &mut ways);
+    let WaysOut { places, filled } = ways;
     if list.len() < filled {
         return Err(Refusal::TooMany);
     }
-    list[..filled].copy_from_slice(&found[..filled]);
+    list[..filled].copy_from_slice(&places[..filled]);
     Ok(Listing::Listed(filled))
 }
 

@@ -1,7 +1,9 @@
 // The walk over the settings, from the highest down: keep before give up, so that the ways out come rising, with nothing to sort.
 #![tactic(auto)]
 
-ghost use Rattle.std.specs.Prelude.{◌+◌, ◌-◌, ◌^◌, ◌<◌, length, take};
+mod ways;
+
+ghost use Rattle.std.specs.Prelude.{◌≡◌, ◌+◌, ◌-◌, ◌^◌, ◌<◌, length, take};
 ghost use Rattle.question.specs.Question.{setup_of};
 ghost use Rattle.walk.specs.Walking.{KeepsHighest, GivesUpHighest, Reached, Witnessed, Enters, Walked};
 
@@ -9,6 +11,7 @@ use numbers::Setting;
 use question::question;
 use sets::{Set, has, with};
 use setups::TakenSetup;
+pub use ways::WaysOut;
 
 // A node of the walk: the settings above the first `left` are decided, those of `kept` kept and those of `given` given up. At a live
 // node the witness is what some model makes true that meets what the node asks.
@@ -70,25 +73,26 @@ fn keeping(taken: &TakenSetup, node: Node, found: &[Set]) -> Option<Node>
 
 // Puts the ways out of a live node's branch behind those found, until the places are full. A setting is given up only after a dead keep,
 // or where the question with it given up is answered: that a witness breaks it says nothing.
-pub fn walk(taken: &TakenSetup, node: Node, found: &mut [Set], filled: usize) -> usize
-    requires witnessed { Witnessed (setup_of taken.now) node (take filled found.old) }
-    requires filled_in_bounds { filled < length found.old }
-    ensures { Walked (setup_of taken.now) (node.given + 2 ^ node.left) found.old found.new result }
+pub fn walk(taken: &TakenSetup, node: Node, ways: &mut WaysOut)
+    requires witnessed { Witnessed (setup_of taken.now) node (take ways.old.filled ways.old.places.now) }
+    requires room { ways.old.filled < length ways.old.places.now }
+    ensures same_places { ways.new.places.ghost_name ≡ ways.old.places.ghost_name }
+    ensures walked { Walked (setup_of taken.now) (node.given + 2 ^ node.left) ways.old.places.now ways.new.places.now ways.new.filled }
 {
     if node.left == 0 {
-        found[filled] = node.given;
-        return filled + 1;
+        ways.push(node.given);
+        return;
     }
     let given_up = node.give_up();
-    let Some(kept) = keeping(taken, node, &found[..filled]) else {
-        return walk(taken, given_up, found, filled);
+    let Some(kept) = keeping(taken, node, ways.found()) else {
+        walk(taken, given_up, ways);
+        return;
     };
-    let reached = walk(taken, kept, found, filled);
-    if found.len() <= reached {
-        return reached;
+    walk(taken, kept, ways);
+    if ways.is_full() {
+        return;
     }
-    let Some(live) = enter(taken, given_up, &found[..reached]) else {
-        return reached;
-    };
-    walk(taken, live, found, reached)
+    if let Some(live) = enter(taken, given_up, ways.found()) {
+        walk(taken, live, ways);
+    }
 }

@@ -1,5 +1,10 @@
 -- `list::give_out` meets its contract: a dead root is Unmet, and from a live one the walk goes through all ways out.
 use mathlib.Core.Path.{◌≡◌, refl}
+use Rattle.std.specs.Prelude.{Result}
+use borrow.Author.Rules.{rules}
+use Rattle.setups.specs.declared.Refusal.{Refusal}
+use Rattle.list.specs.declared.Listing.{Listing}
+use Rattle.list.specs.Code.Giving.{GivesWays}
 use mathlib.Core.List.{List, []}
 use Prim.Native.Nat.{ℕ, ◌+◌, ◌^◌}
 use lib.ListN.{length}
@@ -17,13 +22,19 @@ whole : {g : Setup} {settings : ℕ} {node : Node} {list found places : List ℕ
 whole {node = node} e room live walked =
     record { met = root_met live.0; room = room; walked = root_walked _ _ e node live.1 live.2 _ _ _ walked }
 
+-- the places are those that were lent
+held : {g : Setup} {list found after places held : List ℕ} {answer : Result Listing Refusal} → GivesWays g list found answer after places
+    → held ≡ places → GivesWays g list found answer after held
+held h e = rw e h
+
 pub returns-in_default : goal.returns-in_default
 returns-in_default c = root_dead _ _ c.args.taken.now.counted _ _ c.in_default.ensures
 
 pub returns-then-list-filled : goal.returns-then-list-filled
 returns-then-list-filled c =
-    whole_many (whole c.args.taken.now.counted c.requires c.in-Some.ensures c.walk-filled.ensures) c.if-list-filled.true
+    held (whole_many (whole c.args.taken.now.counted c.requires c.in-Some.ensures c.walk.ensures.walked) c.if-list-filled.true) (search rules)
 
 pub returns : goal.returns
 returns c =
-    whole_listed (whole c.args.taken.now.counted c.requires c.in-Some.ensures c.walk-filled.ensures) c.if-list-filled.false (rw c.copy_from_slice.ensures.after refl)
+    held (whole_listed (whole c.args.taken.now.counted c.requires c.in-Some.ensures c.walk.ensures.walked) c.if-list-filled.false
+    (rw c.copy_from_slice.ensures.after refl)) (search rules)
