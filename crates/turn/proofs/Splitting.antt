@@ -1,15 +1,17 @@
--- How a branch parts in two: one of the settings that it turns on is taken, or it is left; and how the scratch grows by the two parts.
+-- How a branch parts in two: one of the settings that it turns on is taken, or it is left; and how the sets found grow by the two parts.
 use mathlib.Core.Path.{◌≡◌, sym, subst}
 use mathlib.Core.Logic.{◌⊎◌, inl, inr, ⊎_elim, ◌≢◌, by_cases}
 use mathlib.Core.List.{List}
-use Prim.Native.Nat.{ℕ, ◌≤◌, ◌<◌}
+use Prim.Native.Nat.{ℕ, ◌<◌}
 use native.Mathlib.Omega.{arith}
-use lib.ListN.{length}
 use Rattle.sets.specs.Sets.{In, Share, Joins, Leaves}
 use Rattle.sets.proofs.Digits.{in_dec, none_in, within_le}
-use Rattle.turn.specs.Code.Branches.{Branch, TurnsOn}
-use Rattle.turn.specs.Code.Growing.{Ready, Grown}
-use Rattle.turn.proofs.Growth.{ready_first, grown_first, ready_second, grown_both}
+use Rattle.std.specs.Prelude.{Result}
+use Rattle.setups.specs.declared.Refusal.{Refusal}
+use Rattle.turn.specs.declared.Found.{Found}
+use Rattle.turn.specs.Code.Branches.{Holds, TurnsOn}
+use Rattle.turn.specs.Code.Growing.{Ready, Added, Overfull, Grown}
+use Rattle.turn.proofs.Growth.{ready_first, over_first, added_first, ready_second, grown_both}
 
 -- the branch turns on `wanted`, and `one` is the set of one of these settings: with it the taken ones are `more`, without it the ones
 -- left are `less`
@@ -43,10 +45,10 @@ module _ {members : List ℕ} {taken left wanted one more less : ℕ} (parts : P
   -- ---- the two parts
 
   -- the first: each set of the branch with that setting taken has it, and is one of the whole
-  take_has : (S : ℕ) → Branch members more less S → In place S
+  take_has : (S : ℕ) → Holds members more less S → In place S
   take_has S b = b.has place ((parts.joins place).1 (inr in_one))
 
-  take_in : (S : ℕ) → Branch members more less S → Branch members taken left S
+  take_in : (S : ℕ) → Holds members more less S → Holds members taken left S
   take_in S b = record { smallest = b.smallest; has = λ j h. b.has j ((parts.joins j).1 (inl h)); rest = from }
     where
       from : (j : ℕ) → In j S → In j taken ⊎ In j left
@@ -55,20 +57,20 @@ module _ {members : List ℕ} {taken left wanted one more less : ℕ} (parts : P
           (λ l. inr ((parts.leaves j).0 l).0) (b.rest j h)
 
   -- the second: each set of the branch with that setting left lacks it, and is one of the whole
-  leave_lacks : (S : ℕ) → Branch members taken less S → ¬ In place S
+  leave_lacks : (S : ℕ) → Holds members taken less S → ¬ In place S
   leave_lacks S b h = ⊎_elim (parts.turns.apart place among) (λ l. ((parts.leaves place).0 l).1 in_one) (b.rest place h)
 
-  leave_in : (S : ℕ) → Branch members taken less S → Branch members taken left S
+  leave_in : (S : ℕ) → Holds members taken less S → Holds members taken left S
   leave_in S b = record { smallest = b.smallest; has = b.has; rest = λ j h. ⊎_elim inl (λ l. inr ((parts.leaves j).0 l).0) (b.rest j h) }
 
   -- they have nothing in common, and there is nothing else
-  take_leave : (S : ℕ) → Branch members more less S → ¬ Branch members taken less S
+  take_leave : (S : ℕ) → Holds members more less S → ¬ Holds members taken less S
   take_leave S b d = leave_lacks S d (take_has S b)
 
-  take_or_leave : (S : ℕ) → Branch members taken left S → Branch members more less S ⊎ Branch members taken less S
+  take_or_leave : (S : ℕ) → Holds members taken left S → Holds members more less S ⊎ Holds members taken less S
   take_or_leave S b = by_cases (in_dec place S) (λ h. inl (takes h)) (λ q. inr (lacks q))
     where
-      takes : In place S → Branch members more less S
+      takes : In place S → Holds members more less S
       takes h = record { smallest = b.smallest; has = has; rest = rest }
         where
           has : (j : ℕ) → In j more → In j S
@@ -79,7 +81,7 @@ module _ {members : List ℕ} {taken left wanted one more less : ℕ} (parts : P
               by_cases (in_dec j one) (λ o. inl ((parts.joins j).1 (inr o)))
               (λ q. ⊎_elim (λ t. inl ((parts.joins j).1 (inl t))) (λ l. inr ((parts.leaves j).1 (l, q))) (b.rest j k))
 
-      lacks : ¬ In place S → Branch members taken less S
+      lacks : ¬ In place S → Holds members taken less S
       lacks q = record { smallest = b.smallest; has = b.has; rest = rest }
         where
           rest : (j : ℕ) → In j S → In j taken ⊎ In j less
@@ -88,7 +90,7 @@ module _ {members : List ℕ} {taken left wanted one more less : ℕ} (parts : P
   -- ---- what the second turns on
 
   module _ (still : ℕ) (drops : Leaves wanted one still) where
-    others : (S : ℕ) → Branch members taken less S → Share S still
+    others : (S : ℕ) → Holds members taken less S → Share S still
     others S b = go (parts.turns.each S (leave_in S b))
       where
         go : Share S wanted → Share S still
@@ -104,34 +106,33 @@ module _ {members : List ℕ} {taken left wanted one more less : ℕ} (parts : P
     }
 
     -- it is empty where nothing is
-    leave_empty : still ≡ 0 → (S : ℕ) → ¬ Branch members taken less S
+    leave_empty : still ≡ 0 → (S : ℕ) → ¬ Holds members taken less S
     leave_empty e S b = go (others S b)
       where
         go : ¬ Share S still
         go s = none_in s.0 (rw e at s.2)
 
-  -- ---- the scratch
+  -- ---- the sets found
 
-  module _ {filled room : ℕ} {before : List ℕ} (ready : Ready (Branch members taken left) filled room before) where
-    -- it is ready for the first part
-    pub take_ready : Ready (Branch members more less) filled room before
+  module _ {before : Found} (ready : Ready (Holds members taken left) before) where
+    -- those found before are ready for the first part
+    pub take_ready : Ready (Holds members more less) before
     take_ready = ready_first ready take_in
 
-    module _ {found : ℕ} {middle : List ℕ} (grown : Grown (Branch members more less) filled room before found middle) where
-      -- the first part alone is more than the room
-      pub take_full : room < found → Grown (Branch members taken left) filled room before found middle
-      take_full l = grown_first ready take_in grown (λ f. absurd (let z : ⊥ = omega arith in z))
+    -- the first part alone is too much
+    pub take_over : Overfull (Holds members more less) before → Overfull (Holds members taken left) before
+    take_over = over_first ready take_in
 
+    module _ {middle : Found} (first : Added (Holds members more less) before middle) where
       -- the second part is empty
-      pub take_last : (still : ℕ) → Leaves wanted one still → still ≡ 0 → Grown (Branch members taken left) filled room before found middle
+      pub take_last : (still : ℕ) → Leaves wanted one still → still ≡ 0 → Added (Holds members taken left) before middle
       take_last still drops e =
-          grown_first ready take_in grown (λ f S b. ⊎_elim (λ p. p) (λ d. absurd (leave_empty still drops e S d)) (take_or_leave S b))
+          added_first ready take_in first (λ S b. ⊎_elim (λ p. p) (λ d. absurd (leave_empty still drops e S d)) (take_or_leave S b))
 
-      -- it is ready for the second part, and then has grown by both
-      module _ (fits : found ≤ room) where
-        pub leave_ready : length middle ≡ length before → Ready (Branch members taken less) found room middle
-        leave_ready e = ready_second ready take_in grown leave_in fits e take_leave
+      -- it is ready for the second part, and then has both
+      pub leave_ready : Ready (Holds members taken less) middle
+      leave_ready = ready_second ready take_in first leave_in take_leave
 
-        pub take_and_leave : {r : ℕ} {after : List ℕ} → Grown (Branch members taken less) found room middle r after
-            → Grown (Branch members taken left) filled room before r after
-        take_and_leave next = grown_both ready take_in grown leave_in fits next take_or_leave
+      pub take_and_leave : (after : Found) (result : Result (Unit {0}) Refusal) → Grown (Holds members taken less) middle after result
+          → Grown (Holds members taken left) before after result
+      take_and_leave after result second = grown_both ready take_in first leave_in after result second take_or_leave
