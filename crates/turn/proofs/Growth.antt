@@ -6,6 +6,7 @@ use native.Mathlib.Omega.{arith}
 use lib.Seq.{length-take-le}
 use Rattle.std.specs.Prelude.{Result, Ok, Err}
 use Rattle.setups.specs.declared.Refusal.{Refusal}
+use Rattle.sets.specs.Lists.{Among}
 use Rattle.turn.specs.declared.Found.{Found}
 use Rattle.turn.specs.Code.Growing.{placed, sets_of, Inserts, Ready, Added, Overfull, Grown}
 use Rattle.turn.proofs.Placing.{placed_length, placed_listed, placed_rising}
@@ -51,15 +52,9 @@ module _ {Family : ℕ → Type 0} {before : Found} (ready : Ready Family before
     over_first over = record { sets = over.sets; rising = over.rising; sound = λ S h. ⊎_elim inl (λ f. inr (inside S f)) (over.sound S h); more = over.more }
 
     module _ {middle : Found} (first : Added First before middle) where
-      -- with that part the family is added, if it has nothing else
-      pub added_first : ((S : ℕ) → Family S → First S) → Added Family before middle
-      added_first all = record {
-        room = first.room;
-        sorted = first.sorted;
-        kept = first.kept;
-        sound = λ S h. ⊎_elim inl (λ f. inr (inside S f)) (first.sound S h);
-        whole = λ S f. first.whole S (all S f);
-      }
+      -- what is found then was there, or is of the family
+      found_first : (S : ℕ) → Among S (sets_of middle) → Among S (sets_of before) ⊎ Family S
+      found_first S h = ⊎_elim inl (λ f. inr (inside S f)) (first.sound S h)
 
       module _ {Second : ℕ → Type 0} (inside_too : (S : ℕ) → Second S → Family S) where
         -- it is then ready for another part that has nothing in common with the first
@@ -70,21 +65,20 @@ module _ {Family : ℕ → Type 0} {before : Found} (ready : Ready Family before
         }
 
         -- with both the family is added, if it has nothing else
-        pub grown_both : (after : Found) (result : Result (Unit {0}) Refusal) → Grown Second middle after result → ((S : ℕ) → Family S → First S ⊎ Second S)
-            → Grown Family before after result
-        grown_both after (Ok u) second all = record {
+        pub added_both : (after : Found) → Added Second middle after → ((S : ℕ) → Family S → First S ⊎ Second S) → Added Family before after
+        added_both after second all = record {
           room = second.room ∙ first.room;
           sorted = second.sorted;
           kept = λ S h. second.kept S (first.kept S h);
-          sound = λ S h. ⊎_elim (λ k. ⊎_elim inl (λ f. inr (inside S f)) (first.sound S k)) (λ s. inr (inside_too S s)) (second.sound S h);
+          sound = λ S h. ⊎_elim (found_first S) (λ s. inr (inside_too S s)) (second.sound S h);
           whole = λ S f. ⊎_elim (λ p. second.kept S (first.whole S p)) (second.whole S) (all S f);
         }
-        grown_both after (Err refusal) second all = (
-          second.0,
-          record {
-            sets = second.1.sets;
-            rising = second.1.rising;
-            sound = λ S h. ⊎_elim (λ k. ⊎_elim inl (λ f. inr (inside S f)) (first.sound S k)) (λ s. inr (inside_too S s)) (second.1.sound S h);
-            more = let r = first.room in let m = second.1.more in omega arith;
-          },
-        )
+
+        -- if that one is too much, so is the family
+        pub over_both : Overfull Second middle → Overfull Family before
+        over_both over = record {
+          sets = over.sets;
+          rising = over.rising;
+          sound = λ S h. ⊎_elim (found_first S) (λ s. inr (inside_too S s)) (over.sound S h);
+          more = let r = first.room in let m = over.more in omega arith;
+        }

@@ -71,29 +71,25 @@ impl Branch<'_> {
         }
     }
 
-    // The same for a branch each of whose sets has one of the settings `wanted`: takes one of them, then leaves it. Where the last of them
-    // is left, nothing hits the member that wants them.
+    // The same for a branch each of whose sets has one of the settings `wanted`: takes each of them in turn, and leaves it after that.
+    // Where all are left, nothing hits the member that wants them.
     #[cycle(branch_split)]
-    fn split(self, wanted: Set, found: &mut Found) -> Result<(), Refusal>
+    fn split(mut self, mut wanted: Set, found: &mut Found) -> Result<(), Refusal>
         requires turns_on { TurnsOn self.members.now self.taken self.left wanted }
         requires ready { Ready (HeldBy self) found.old }
         ensures { Grown (HeldBy self.entry) found.old found.new result }
     {
-        let setting = choose(wanted);
-        let fewer = Branch {
-            left: without(self.left, setting),
-            ..self
-        };
-        let taking = Branch {
-            taken: with(self.taken, setting),
-            ..fewer
-        };
-        taking.search(found)?;
-        let still_wanted = without(wanted, setting);
-        if still_wanted == EMPTY {
-            return Ok(());
+        while wanted != EMPTY {
+            let setting = choose(wanted);
+            self.left = without(self.left, setting);
+            let taking = Branch {
+                taken: with(self.taken, setting),
+                ..self
+            };
+            taking.search(found)?;
+            wanted = without(wanted, setting);
         }
-        fewer.split(still_wanted, found)
+        Ok(())
     }
 }
 
