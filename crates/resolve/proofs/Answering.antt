@@ -1,4 +1,5 @@
 -- From what Read, List and Turn answer to the lines that are put out.
+use Rattle.std.proofs.Common.{Result, Ok, Err}
 use mathlib.Core.Path.{◌≡◌, refl, ap, subst}
 use mathlib.Core.Bool.{false, cond}
 use mathlib.Core.List.{List, [], ◌∷◌}
@@ -21,14 +22,22 @@ use Rattle.list.specs.declared.Listing.TheVariants.{Listed, Unmet, Refused}
 use Rattle.turn.proofs.Promise.{turns_exist}
 use Rattle.turn.specs.Turning.{answered as turn_answered}
 use Rattle.turn.specs.declared.Turning.{Turning}
-use Rattle.turn.specs.declared.Turning.TheVariants.{Listed as TurnListed, Refused as TurnRefused}
+use Rattle.turn.specs.declared.Turning.TheVariants.{Refused as TurnRefused}
 use Rattle.read.specs.declared.Reading.{Reading}
 use Rattle.read.specs.declared.Reading.TheVariants.{Read, Refused as ReadRefused}
 use Rattle.read.specs.Read.{ReadResult}
 use Rattle.read.specs.Reading.{answered as read_answered}
 use Rattle.lines.specs.Lines.{answer_lines, refusal_lines}
 use Rattle.resolve.specs.Resolve.{places, scratch_places, reading, setup_read, listed_lines, Answers, Resolves}
-use Rattle.resolve.specs.Code.Parts.{AnswersTurn}
+use Rattle.resolve.specs.Code.Parts.{AnswersTurn, PutsOrRefuses}
+
+-- ---- what is put out
+
+-- what is so makes other lines so
+pub puts_along : (Are Be : List ℕ → Type 0) → ((lines : List ℕ) → Are lines → Be lines) → (result : Result ℕ Refusal) (output after : List ℕ)
+    → PutsOrRefuses Are result output after → PutsOrRefuses Be result output after
+puts_along Are Be f (Ok filled) output after p = (p.0, f p.0 p.1, p.2)
+puts_along Are Be f (Err refusal) output after p = (f (refusal_lines (number_of refusal)) p.0, p.1)
 
 -- ---- after Turn
 
@@ -39,15 +48,8 @@ not_unmet : (refusal : Refusal) → eqb (number_of refusal) unmet ≡ false
 not_unmet refusal = ne_eqb (number_of refusal) unmet (refused_not_unmet refusal)
 
 module _ (n : ℕ) (ways scratch : List ℕ) (answer : Turning) (list' scratch' : List ℕ) (p : TurnGives n ways (places sets_most) scratch (turn_answered answer list' scratch')) where
-  pub turn_refused : (refusal : Refusal) (number : ℕ) → answer ≡ TurnRefused refusal → number ≡ number_of refusal → AnswersTurn n ways scratch (refusal_lines number)
-  turn_refused refusal number e q = record {
-    turned = turn_answered (TurnRefused refusal) list' scratch';
-    turns = rw e at p;
-    says = rw (q, not_finished refusal);
-  }
-
-  pub turn_listed : (filled : ℕ) → answer ≡ TurnListed filled → AnswersTurn n ways scratch (answer_lines finished ways (take filled list'))
-  turn_listed filled e = record { turned = turn_answered (TurnListed filled) list' scratch'; turns = rw e at p; says = refl }
+  pub turn_refused : (refusal : Refusal) → answer ≡ TurnRefused refusal → AnswersTurn n ways scratch (refusal_lines (number_of refusal))
+  turn_refused refusal e = record { turned = turn_answered (TurnRefused refusal) list' scratch'; turns = rw e at p; says = rw (not_finished refusal) }
 
 -- ---- after List
 
@@ -60,9 +62,9 @@ module _ (n : ℕ) (hard soft : List ℕ) (answer : Listing) (list' scratch' : L
       let turned = turns_exist (count (setup n hard soft)) (listed_sets found) (places sets_most) found.scratch in
       record { found = found; lists = q; turned = turned.0; turns = turned.1; says = says turned.0 }
 
-  pub list_refused : (refusal : Refusal) (number : ℕ) → answer ≡ Refused refusal → number ≡ number_of refusal → Answers (setup n hard soft) (refusal_lines number)
-  list_refused refusal number e q =
-      without (list_answered (Refused refusal) list' scratch') (rw e at p) (refusal_lines number) (λ turned. rw (q, not_finished refusal, not_unmet refusal))
+  pub list_refused : (refusal : Refusal) → answer ≡ Refused refusal → Answers (setup n hard soft) (refusal_lines (number_of refusal))
+  list_refused refusal e =
+      without (list_answered (Refused refusal) list' scratch') (rw e at p) (refusal_lines (number_of refusal)) (λ turned. rw (not_finished refusal, not_unmet refusal))
 
   pub list_unmet : answer ≡ Unmet → Answers (setup n hard soft) (answer_lines unmet [] (0 ∷ []))
   list_unmet e = without (list_answered Unmet list' scratch') (rw e at p) (answer_lines unmet [] (0 ∷ [])) (λ turned. refl)
@@ -80,8 +82,8 @@ module _ (n : ℕ) (hard soft : List ℕ) (answer : Listing) (list' scratch' : L
 -- ---- after Read
 
 module _ (text : List ℕ) (answer : Reading) (hard soft : List ℕ) (p : read_answered answer hard soft ≡ reading text) where
-  pub read_refused : (refusal : Refusal) (number : ℕ) → answer ≡ ReadRefused refusal → number ≡ number_of refusal → Resolves text (refusal_lines number)
-  read_refused refusal number e q =
+  pub read_refused : (refusal : Refusal) → answer ≡ ReadRefused refusal → Resolves text (refusal_lines (number_of refusal))
+  read_refused refusal e =
       let r : read_answered (ReadRefused refusal) hard soft ≡ reading text = rw e at p in
       let g = setup_read (reading text) in
       let found = lists_exist g.variables g.hard g.soft (places sets_most) (places scratch_places) in
@@ -90,7 +92,7 @@ module _ (text : List ℕ) (answer : Reading) (hard soft : List ℕ) (p : read_a
       record {
         answer = listed_lines found.0 turned.0;
         answers = record { found = found.0; lists = found.1; turned = turned.0; turns = turned.1; says = refl };
-        says = subst (λ (k : ℕ). refusal_lines number ≡ cond (eqb k finished) (listed_lines found.0 turned.0) (refusal_lines k)) so (rw (q, not_finished refusal));
+        says = subst (λ (k : ℕ). refusal_lines (number_of refusal) ≡ cond (eqb k finished) (listed_lines found.0 turned.0) (refusal_lines k)) so (rw (not_finished refusal));
       }
 
   pub read_read : (variables hard_filled soft_filled : ℕ) → answer ≡ Read variables hard_filled soft_filled → (lines : List ℕ)
