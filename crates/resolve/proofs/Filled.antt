@@ -1,4 +1,4 @@
--- How many places Read, List and Turn have filled, and how many settings List takes.
+-- How many places Read has filled.
 use mathlib.Core.Path.{◌≡◌, sym, subst}
 use mathlib.Core.List.{List}
 use Prim.Native.Nat.{ℕ, ◌≤◌, zero-le}
