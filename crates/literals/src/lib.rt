@@ -46,7 +46,7 @@ pub fn slot(literal: u8) -> usize
 pub fn wish(literal: u8) -> u8
     ensures { result ≡ Clauses.wish literal }
 {
-    if literal < NEGATED { 1 } else { 0 }
+    u8::from(literal < NEGATED)
 }
 
 // The clause so far with one literal more, whose variable has this value.

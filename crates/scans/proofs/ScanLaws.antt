@@ -108,10 +108,6 @@ module _ {values bytes : List ℕ} {seen : Seen} {gone i : ℕ} (at : ScansFrom 
       → record { seen = seen; passed = gone } ≡ scanned values (clauses bytes)
   scan_stops l z e = sym (end_here l z ∙ rest_stops seen gone (scanned values (clauses (drop (i + 1) bytes))) e)
 
-  -- or the buffer does; a clause that no 0 ends is none
-  pub scan_ends : length bytes ≤ i → record { seen = Enough; passed = gone } ≡ scanned values (clauses bytes)
-  scan_ends l = sym (at.gives ∙ rw (drop_of_length-le bytes l, add-zero))
-
 -- ---- assumed literals
 
 -- the first i of the assumed literals don't decide

@@ -51,6 +51,7 @@ fn see_under(values: &Values, seen: Seen, literal: u8) -> Seen
 }
 
 // The clauses of one buffer; one that no 0 ends is none.
+#[tactic(auto, using(crate::proofs::ScanLaws::scan_starts))]
 fn scan(values: &Values, bytes: &[u8]) -> Scanned
     requires { Readable bytes.now }
     ensures { result ≡ scanned values.now (clauses bytes.now) }
@@ -76,6 +77,7 @@ fn scan(values: &Values, bytes: &[u8]) -> Scanned
 }
 
 // Assumed literals, each a clause of its own.
+#[tactic(auto, using(crate::proofs::ScanLaws::unit_passes, crate::proofs::ScanLaws::units_end))]
 fn scan_units(values: &Values, assumed: &[u8]) -> Scanned
     requires { ReadableUnits assumed.now }
     ensures { result ≡ scanned values.now (units assumed.now) }
@@ -94,6 +96,7 @@ fn scan_units(values: &Values, assumed: &[u8]) -> Scanned
 }
 
 // The first buffer, then the second, then the assumed literals.
+#[tactic(auto, using(crate::proofs::ScanLaws::part_decides, crate::proofs::ScanLaws::part_passes, crate::proofs::ScanLaws::bytes_most, crate::proofs::ScanLaws::units_most))]
 pub fn scan_all(values: &Values, clauses: Clauses) -> Scanned
     ensures { result ≡ scanned values.now (all_of clauses.entry) }
 {

@@ -11,6 +11,7 @@ use scans::{Clauses, scan_all};
 use setups::{Refusal, Seen};
 
 // Sets forced values one by one: after each the scan starts again from the first clause. None where a clause is wholly false.
+#[tactic(auto, using(crate::proofs::VisitLaws::scan_seen, setups::proofs::Visits::settle_fails, setups::proofs::Visits::settle_stops))]
 fn settle(mut values: Values, clauses: Clauses) -> Option<Values>
     ensures { result ≡ settled_of (Searching.settle (all_of clauses.entry) values) }
 {
@@ -26,6 +27,7 @@ fn settle(mut values: Values, clauses: Clauses) -> Option<Values>
 // A visit after `used` others: it fails, has a model, or hands over to a split on the lowest free variable. Every visit counts one;
 // the first that would pass the budget gives up.
 #[cycle(split_visit)]
+#[tactic(auto, using(crate::proofs::VisitLaws::visit_told_spent, crate::proofs::VisitLaws::visit_told_none, crate::proofs::VisitLaws::visit_told_model, crate::proofs::VisitLaws::visit_told_split))]
 pub fn visit(values: Values, clauses: Clauses, used: u32, budget: u32) -> Result<Visited, Refusal>
     ensures { result ≡ told budget used (Searching.visit (all_of clauses.entry) values) }
 {

@@ -1,11 +1,8 @@
 -- `scans::scan` meets its contract: a clause's end decides or is passed, and any other byte is a literal of the clause so far.
 use Rattle.std.proofs.Common.{sym, ◌∙◌}
-use Rattle.scans.proofs.ScanLaws.{scan_starts, scan_literal, scan_passes, scan_stops, scan_ends}
+use Rattle.scans.proofs.ScanLaws.{scan_literal, scan_passes, scan_stops}
 use Rattle.scans.proofs.scan.Goals as goal
 use Rattle.scans.proofs.scan.Goals.{then-byte-eq0+else-decides, else-byte-eq0}
-
-pub loop-byte-init : goal.loop-byte-init
-loop-byte-init c = scan_starts c.args.values.now c.args.bytes.now
 
 pub returns-then-decides : goal.returns-then-decides
 returns-then-decides c =
@@ -21,6 +18,3 @@ loop-byte-preserved c =
       | else-byte-eq0 w ↦
           rw (w.seen-is ∙ w.see_under-seen.ensures, w.passed-is) (scan_literal c.loop-byte.invariant inside w.if-byte-eq0.false)
     ]
-
-pub returns : goal.returns
-returns c = scan_ends c.loop-byte.invariant c.loop-byte-test.false

@@ -1,6 +1,6 @@
--- `visits::visit` and `visits::split` meet their contracts: the place of the variable that is split on, what the first side tells by the
--- variable, and what a visit tells by how it ends.
-use mathlib.Core.Path.{◌≡◌, ◌∙◌}
+-- `visits::visit` and `visits::split` meet their contracts: the place of the variable that is split on, what the sides tell there, and that
+-- a split has no more free values than its visit.
+use mathlib.Core.Path.{◌≡◌}
 use mathlib.Core.List.{List}
 use Prim.Native.Nat.{ℕ, ◌-◌, ◌≤◌, ◌<◌}
 use native.Mathlib.Omega.{arith}
@@ -12,7 +12,7 @@ use Rattle.setups.specs.Limits.{variables_most}
 use Rattle.numbers.specs.Code.Places.{value_place}
 use Rattle.setups.proofs.Settling.{free_inside}
 use Rattle.search.proofs.Telling.{first_tells, second_tells}
-use Rattle.search.proofs.VisitLaws.{sides_fewer, visit_told_spent, visit_told_none, visit_told_model, visit_told_split, visit_fewer}
+use Rattle.search.proofs.VisitLaws.{sides_fewer, visit_fewer}
 use Rattle.search.proofs.visits.+split_visit.Goals as goal
 
 -- the place of the variable that is split on
@@ -51,27 +51,9 @@ split-returns-in_default t c =
     let place = place_of c.args.values _ c.value_place-at.result (search rules) c.value_place-at.ensures c.requires in
     rw (← place) (first_tells _ _ _ _ _ c.in_ok-model.ensures (λ k e. c.in_default.not-None k cc))
 
-pub visit-returns-then-budget-used : goal.visit-returns-then-budget-used
-visit-returns-then-budget-used t c = visit_told_spent c.args.budget c.args.used _ _ (omega arith)
-
-pub visit-returns-in_default : goal.visit-returns-in_default
-visit-returns-in_default t c = visit_told_none c.args.budget c.args.used _ _ c.if-budget-used.false c.in_default.ensures
-
 pub visit-split-requires : goal.visit-split-requires
 visit-split-requires t c =
     let fewer = visit_fewer c.args.budget c.args.used _ _ c.if-budget-used.false c.in-Some.end c.in-Some.ensures in
     let on = c.in-Some-lowest_free.ensures in
     let e : c.in-Some-lowest_free.variable.0 - 1 ≡ on.0 = omega (arith, on.1) in
     (omega arith, (omega (arith, on.1), rw e on.2.free))
-
-pub visit-returns-in-None : goal.visit-returns-in-None
-visit-returns-in-None t c =
-    visit_told_model c.args.budget c.args.used _ _ c.if-budget-used.false c.in-Some.end c.in-Some.ensures c.in-None.ensures
-
-pub visit-returns-in-Some-lowest_free : goal.visit-returns-in-Some-lowest_free
-visit-returns-in-Some-lowest_free t c =
-    let on = c.in-Some-lowest_free.ensures in
-    let e : c.in-Some-lowest_free.variable.0 - 1 ≡ on.0 = omega (arith, on.1) in
-    c.split.ensures
-    ∙ visit_told_split c.args.budget c.args.used _ _ c.if-budget-used.false c.in-Some.end c.in-Some.ensures
-    (c.in-Some-lowest_free.variable.0 - 1) (rw e on.2)
