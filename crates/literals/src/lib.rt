@@ -62,7 +62,7 @@ pub fn see(seen: Seen, literal: u8, value: u8) -> Seen
     }
     match seen {
         Seen::AllFalse => Seen::OneFree(literal),
-        Seen::OneFree(other) if other == literal => Seen::OneFree(other),
+        Seen::OneFree(other) if other == literal => seen,
         Seen::OneFree(_) | Seen::Enough => Seen::Enough,
     }
 }
