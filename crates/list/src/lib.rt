@@ -29,7 +29,6 @@ fn give_out(taken: &TakenSetup, list: &mut [Set], found: &mut [Set]) -> Result<L
         left: taken.settings,
         given: EMPTY,
         kept: EMPTY,
-        witness: EMPTY,
     };
     let Some(live) = enter(taken, root, &[]) else {
         return Ok(Listing::Unmet);

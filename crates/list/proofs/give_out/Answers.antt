@@ -9,7 +9,7 @@ use mathlib.Core.List.{List, []}
 use Prim.Native.Nat.{ℕ, ◌+◌, ◌^◌}
 use lib.ListN.{length}
 use Rattle.setups.specs.Setups.{Setup, count}
-use Rattle.walk.specs.declared.Node.{Node}
+use Rattle.walk.specs.declared.Live.{Live}
 use Rattle.std.specs.Prelude.{Some}
 use Rattle.walk.specs.Walking.{Enters, Walked}
 use Rattle.walk.proofs.Root.{root_met, root_walked}
@@ -17,10 +17,10 @@ use Rattle.list.proofs.Giving.{root_dead, Whole, whole_many, whole_listed}
 use Rattle.list.proofs.give_out.Goals as goal
 
 -- the walk is through
-whole : {g : Setup} {settings : ℕ} {node : Node} {list found places : List ℕ} {filled : ℕ} → settings ≡ count g → length found ≡ length list + 1
-    → Enters g settings 0 [] (Some node) → Walked g (node.given + 2 ^ node.left) found places filled → Whole g list found places filled
-whole {node = node} e room live walked =
-    record { met = root_met live.0; room = room; walked = root_walked _ _ e node live.1 live.2 _ _ _ walked }
+whole : {g : Setup} {settings : ℕ} {live : Live} {list found places : List ℕ} {filled : ℕ} → settings ≡ count g → length found ≡ length list + 1
+    → Enters g settings 0 [] (Some live) → Walked g (live.node.given + 2 ^ live.node.left) found places filled → Whole g list found places filled
+whole {live = live} e room entered walked =
+    record { met = root_met entered.0; room = room; walked = root_walked _ _ e live entered.1 entered.2 _ _ _ walked }
 
 -- the places are those that were lent
 held : {g : Setup} {list found after places held : List ℕ} {answer : Result Listing Refusal} → GivesWays g list found answer after places

@@ -4,18 +4,19 @@ use native.Mathlib.Omega.{arith}
 use Rattle.setups.specs.Setups.{Setup}
 use Rattle.setups.specs.Code.Taken.{Taken}
 use Rattle.walk.specs.declared.Node.{Node}
+use Rattle.walk.specs.declared.Live.{Live}
 use Rattle.walk.specs.Walking.{GivesUpHighest, Witnessed, Enters, Walked}
 use Rattle.walk.proofs.NodeSteps.{Known, give_to, give_witnessed}
 use Rattle.walk.proofs.Walks.{Half, walked_end, half_full, half_reached, half_dead, half_on}
 use Rattle.walk.proofs.+walk.Goals as goal
 
-known : {g : Setup} {node : Node} {found : List ℕ} → Taken g → Witnessed g node found → Known g node
+known : {g : Setup} {live : Live} {found : List ℕ} → Taken g → Witnessed g live found → Known g live.node
 known taken s = record { most = taken.settings; decided = s.reached.decided }
 
 -- the walk is through with the branch where the setting is kept
-half : {g : Setup} {node up kept : Node} {found places after : List ℕ} {filled : ℕ} → Taken g → Witnessed g node found → GivesUpHighest node up
-    → Enters g (node.left - 1) node.given found (Some kept) → Walked g (kept.given + 2 ^ kept.left) places after filled
-    → Half g node up kept places after filled
+half : {g : Setup} {live kept : Live} {up : Node} {found places after : List ℕ} {filled : ℕ} → Taken g → Witnessed g live found
+    → GivesUpHighest live.node up → Enters g (live.node.left - 1) live.node.given found (Some kept)
+    → Walked g (kept.node.given + 2 ^ kept.node.left) places after filled → Half g live.node up kept places after filled
 half taken s gives live walked = record { known = known taken s; gives = gives; left = live.1; given = live.2; walked = walked }
 
 -- ---- no setting is left
@@ -23,7 +24,7 @@ half taken s gives live walked = record { known = known taken s; gives = gives; 
 pub returns-then-node-eq0-clause-walked : goal.returns-then-node-eq0-clause-walked
 returns-then-node-eq0-clause-walked t c =
     rw (c.push.ensures.stored, c.push.ensures.counted)
-    (walked_end _ c.args.node _ _ c.if-node-eq0.true c.requires.witnessed c.requires.room)
+    (walked_end _ c.args.live _ _ c.if-node-eq0.true c.requires.witnessed c.requires.room)
 
 -- ---- after a dead keep
 
@@ -61,7 +62,7 @@ pub returns-in-Some-enter-clause-walked : goal.returns-in-Some-enter-clause-walk
 returns-in-Some-enter-clause-walked t c =
     let live = c.in-Some-enter.ensures in
     half_on (half c.args.taken.now.taken c.requires.witnessed c.give_up-given_up.ensures (rw c.found.ensures at c.in-Some.ensures) c.walk-2.ensures.walked)
-    c.in-Some-enter.live live.1 live.2 c.walk-in-Some-enter.ensures.walked
+    c.in-Some-enter.entered live.1 live.2 c.walk-in-Some-enter.ensures.walked
 
 pub returns-in_default-enter-clause-walked : goal.returns-in_default-enter-clause-walked
 returns-in_default-enter-clause-walked t c =
