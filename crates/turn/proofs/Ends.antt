@@ -19,7 +19,7 @@ use Rattle.setups.specs.GivenOut.{without_list}
 use Rattle.setups.specs.Written.{written}
 use Rattle.setups.specs.Turn.{turn_refusal, TurnGives}
 use Rattle.setups.specs.declared.Refusal.TheVariants.{TooMany}
-use Rattle.turn.specs.declared.Found.{Found}
+use Rattle.turn.specs.declared.found.Found.{Found}
 use Rattle.turn.specs.Code.Branches.{Holds}
 use Rattle.turn.specs.Code.Growing.{sets_of, room_of, Added, Overfull}
 use Rattle.turn.specs.Code.Giving.{GivesTurn}
@@ -56,13 +56,13 @@ module _ (n : ℕ) {given list : List ℕ} {before : Found} (none : sets_of befo
       → list_after ≡ written (sets_of after) list → GivesTurn n given list (Ok (length (sets_of after))) list_after
   gives_list {after} added e = record {
     turned = sets_of after;
-    exact = record { rising = added.sorted.rising; exact = λ S. ((λ h. cross n given (sets_of before) none S (added.sound S h)), λ c. added.whole S ((whole_branch n given S).1 c)) };
+    exact = record { rising = after.rising; exact = λ S. ((λ h. cross n given (sets_of before) none S (added.sound S h)), λ c. added.whole S ((whole_branch n given S).1 c)) };
     says = λ scratch. rw (e, le-ltb (length list) (length (sets_of after)) fits);
   }
     where
       fits : length (sets_of after) ≤ length list
       fits =
-          let f = added.sorted.few in
+          let f = after.few in
           let r = added.room in
           omega (arith, length-take-le after.filled after.places.now f)
 

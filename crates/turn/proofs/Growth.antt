@@ -7,7 +7,7 @@ use lib.Seq.{length-take-le}
 use Rattle.std.specs.Prelude.{Result, Ok, Err}
 use Rattle.setups.specs.declared.Refusal.{Refusal}
 use Rattle.sets.specs.Lists.{Among}
-use Rattle.turn.specs.declared.Found.{Found}
+use Rattle.turn.specs.declared.found.Found.{Found}
 use Rattle.turn.specs.Code.Growing.{placed, sets_of, Inserts, Ready, Added, Overfull, Grown}
 use Rattle.turn.proofs.Placing.{placed_length, placed_listed, placed_rising}
 
@@ -16,7 +16,6 @@ module _ {Family : ℕ → Type 0} {before : Found} (ready : Ready Family before
   pub added_none : ((S : ℕ) → ¬ Family S) → Added Family before before
   added_none none = record {
     room = refl;
-    sorted = ready.sorted;
     kept = λ S h. h;
     sound = λ S h. inl h;
     whole = λ S f. absurd (none S f);
@@ -27,7 +26,6 @@ module _ {Family : ℕ → Type 0} {before : Found} (ready : Ready Family before
       → Grown Family before after result
   grown_one {T} after (Ok u) one put = record {
     room = put.room;
-    sorted = record { few = put.few; rising = rw put.sets (placed_rising T (sets_of before) ready.sorted.rising (λ h. ready.fresh T h ((one T).1 refl))) };
     kept = λ S h. rw put.sets ((placed_listed T (sets_of before) S).1 (inr h));
     sound = λ S h. ⊎_elim (λ k. inr ((one S).1 k)) inl ((placed_listed T (sets_of before) S).0 (rw put.sets at h));
     whole = λ S f. rw put.sets ((placed_listed T (sets_of before) S).1 (inl ((one S).0 f)));
@@ -36,16 +34,16 @@ module _ {Family : ℕ → Type 0} {before : Found} (ready : Ready Family before
     put.0,
     record {
       sets = placed T (sets_of before);
-      rising = placed_rising T (sets_of before) ready.sorted.rising (λ h. ready.fresh T h ((one T).1 refl));
+      rising = placed_rising T (sets_of before) before.rising (λ h. ready.fresh T h ((one T).1 refl));
       sound = λ S h. ⊎_elim (λ k. inr ((one S).1 k)) inl ((placed_listed T (sets_of before) S).0 h);
-      more = let f = ready.sorted.few in omega (arith, placed_length T (sets_of before), length-take-le before.filled before.places.now f, put.1);
+      more = let f = before.few in omega (arith, placed_length T (sets_of before), length-take-le before.filled before.places.now f, put.1);
     },
   )
 
   module _ {First : ℕ → Type 0} (inside : (S : ℕ) → First S → Family S) where
     -- what is ready for a family is ready for a part of it
     pub ready_first : Ready First before
-    ready_first = record { sorted = ready.sorted; fresh = λ S h f. ready.fresh S h (inside S f) }
+    ready_first = record { fresh = λ S h f. ready.fresh S h (inside S f) }
 
     -- if that part is too much, so is the family
     pub over_first : Overfull First before → Overfull Family before
@@ -59,16 +57,12 @@ module _ {Family : ℕ → Type 0} {before : Found} (ready : Ready Family before
       module _ {Second : ℕ → Type 0} (inside_too : (S : ℕ) → Second S → Family S) where
         -- it is then ready for another part that has nothing in common with the first
         pub ready_second : ((S : ℕ) → First S → ¬ Second S) → Ready Second middle
-        ready_second apart = record {
-          sorted = first.sorted;
-          fresh = λ S h s. ⊎_elim (λ k. ready.fresh S k (inside_too S s)) (λ f. apart S f s) (first.sound S h);
-        }
+        ready_second apart = record { fresh = λ S h s. ⊎_elim (λ k. ready.fresh S k (inside_too S s)) (λ f. apart S f s) (first.sound S h) }
 
         -- with both the family is added, if it has nothing else
         pub added_both : (after : Found) → Added Second middle after → ((S : ℕ) → Family S → First S ⊎ Second S) → Added Family before after
         added_both after second all = record {
           room = second.room ∙ first.room;
-          sorted = second.sorted;
           kept = λ S h. second.kept S (first.kept S h);
           sound = λ S h. ⊎_elim (found_first S) (λ s. inr (inside_too S s)) (second.sound S h);
           whole = λ S f. ⊎_elim (λ p. second.kept S (first.whole S p)) (second.whole S) (all S f);

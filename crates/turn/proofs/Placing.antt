@@ -5,18 +5,18 @@ use mathlib.Core.Bool.{true, false}
 use mathlib.Core.List.{List, [], ◌∷◌, ◌++◌}
 use Prim.Native.Nat.{ℕ, zero, suc, ◌+◌, ◌-◌, ◌≤◌, ◌<◌, min, max}
 use native.Mathlib.Nat.{not-suc-le-zero}
-use native.Mathlib.Numerals.{add-one}
 use native.Mathlib.Decide.{dec_lt}
 use native.Mathlib.Omega.{arith}
 use lib.Dec.{ltb}
-use lib.ListN.{length, get_or, set, take, drop, length-drop}
-use lib.Seq.{append_snoc, set_at, take-suc, take-paste, take-set-lt, take-take, length-take-le}
+use lib.ListN.{length, get_or, set, take, drop, length-set, length-append, length-take, length-drop}
+use lib.Seq.{length-paste, take-take, take_at, drop_at, length-take-le}
 use borrow.Author.Tests.{ltb-true, ltb-false, lt-ltb}
-use Rattle.std.specs.List.{copy_within, insert}
+use Rattle.std.specs.List.{insert}
 use Rattle.std.specs.List.Sorted.{IsPartitionedBy, IsPartitionPoint}
-use Rattle.std.proofs.lemmas.Slice.{between_is}
+use Rattle.std.proofs.lemmas.Slice.{between_is, put_mid-paste, take-put_mid}
 use Rattle.sets.specs.Lists.{Among, Rising}
-use Rattle.std.proofs.lemmas.List.{get_or_default}
+use Rattle.std.proofs.lemmas.List.{get_or_default, take_more_set, take-set-le, drop-append-le}
+use borrow.Rule.Slice.PartMut.{put_mid}
 use Rattle.sets.proofs.Lists.{place_listed, listed_place}
 use Rattle.turn.specs.Code.Growing.{placed}
 
@@ -100,23 +100,36 @@ placed_at S (R ∷ list) (suc at) r l parts =
 
 -- ---- the sets from there on move by one place
 
-pub shifted : (list : List ℕ) (at filled S : ℕ) → at ≤ filled → filled < length list
-    → take (filled + 1) (set (copy_within list at filled (at + 1)) at S) ≡ insert (take filled list) at S
-shifted list at filled S l m =
-    take-set-lt (filled + 1) (copy_within list at filled (at + 1)) at S (omega arith) ∙ ap (λ (front : List ℕ). set front at S) kept
-    ∙ ap (λ (front : List ℕ). set front at S) (append_snoc (take at list) (get_or list at 0) moved) ∙ set_at (take at list) (get_or list at 0) moved S at size ∙ rw (← same, between_is list at filled)
+-- a set behind the first `filled` goes to place `at`, as the part from there to it turns by one
+pub turned : (list : List ℕ) (at filled S : ℕ) (part moved : List ℕ) → at ≤ filled → filled < length list → part ≡ take (filled + 1 - at) (drop at (set list filled S))
+    → moved ≡ drop (length part - 1) part ++ take (length part - 1) part
+    → take (filled + 1) (put_mid at (filled + 1 - at) (set list filled S) moved) ≡ insert (take filled list) at S
+turned list at filled S part moved l m e f =
+    take-put_mid at (filled + 1 - at) (set list filled S) moved (filled + 1) (omega (arith, ap length turns, length-drop at sets, size)) (omega (arith, length-set list filled S)) ∙ rw (kept, turns)
   where
-    moved : List ℕ
-    moved = take (filled - at) (drop at list)
+    sets : List ℕ
+    sets = take filled list
 
-    size : length (take at list) ≡ at
-    size = length-take-le at list (omega arith)
+    size : length sets ≡ filled
+    size = length-take-le filled list (omega arith)
 
-    same : take at (take filled list) ≡ take at list
-    same = take-take at filled list l
+    whole : part ≡ drop at sets ++ (S ∷ [])
+    whole =
+        e ∙ between_is (set list filled S) at (filled + 1) ∙ ap (drop at) (take_more_set list filled S m) ∙ drop-append-le at sets (S ∷ []) (omega (arith, size))
 
-    kept : take (filled + 1) (copy_within list at filled (at + 1)) ≡ take at list ++ (get_or list at 0 ∷ []) ++ moved
-    kept =
-        let e : filled + 1 ≡ at + 1 + (filled - at) = omega arith in
-        let one : take (at + 1) list ≡ take at list ++ (get_or list at 0 ∷ []) = rw (add-one at) (take-suc list at 0 (omega arith)) in
-        rw (e, ← one) (take-paste list (at + 1) (drop at list) (filled - at) (omega arith) (omega (arith, length-drop at list)))
+    before : length part - 1 ≡ length (drop at sets)
+    before = rw (whole, length-append) (omega arith)
+
+    turns : moved ≡ S ∷ drop at sets
+    turns = f ∙ rw (before, whole, drop_at (drop at sets) (S ∷ []) (length (drop at sets)) refl, take_at (drop at sets) (S ∷ []) (length (drop at sets)) refl)
+
+    kept : take at (set list filled S) ≡ take at sets
+    kept = take-set-le at list filled S l ∙ sym (take-take at filled list l)
+
+-- and there are as many places as before
+pub turned_length : (list : List ℕ) (at filled S : ℕ) (part moved : List ℕ) → at ≤ filled → filled < length list → part ≡ take (filled + 1 - at) (drop at (set list filled S))
+    → length moved ≡ length part → length (put_mid at (filled + 1 - at) (set list filled S) moved) ≡ length list
+turned_length list at filled S part moved l m e f =
+    let long : length part ≡ filled + 1 - at = rw e (omega (arith, length-take (filled + 1 - at) (drop at (set list filled S)), length-drop at (set list filled S), length-set list filled S)) in
+    rw (put_mid-paste at (filled + 1 - at) (set list filled S) moved moved (filled + 1 - at) refl refl (omega arith))
+    (length-paste (set list filled S) at moved (filled + 1 - at) (omega (arith, length-set list filled S)) (omega arith) ∙ length-set list filled S)

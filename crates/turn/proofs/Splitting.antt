@@ -6,7 +6,7 @@ use Prim.Native.Nat.{ℕ, ◌<◌}
 use native.Mathlib.Omega.{arith}
 use Rattle.sets.specs.Sets.{In, Share, Joins, Leaves}
 use Rattle.sets.proofs.Digits.{in_dec, none_in, within_le}
-use Rattle.turn.specs.declared.Found.{Found}
+use Rattle.turn.specs.declared.found.Found.{Found}
 use Rattle.turn.specs.declared.Branch.{Branch}
 use Rattle.turn.specs.Code.Branches.{Holds, HeldBy, TurnsOn}
 use Rattle.turn.specs.Code.Growing.{Ready, Added, Overfull}

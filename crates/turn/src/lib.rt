@@ -1,49 +1,20 @@
 // Turn: from ways out to clashes and back (document 01, "Ways out and clashes" and "What comes back when it can't").
 #![tactic(auto)]
 
+mod found;
+
 ghost use Rattle.std.specs.Prelude.{◌≡◌, ◌≤◌, ◌<◌, length};
 ghost use Rattle.setups.specs.Limits.{settings_most};
 ghost use Rattle.turn.specs.Code.Branches.{HeldBy, TurnsOn};
-ghost use Rattle.turn.specs.Code.Growing.{sets_of, Sorted, Inserts, Ready, Grown};
+ghost use Rattle.turn.specs.Code.Growing.{Ready, Grown};
 ghost use Rattle.turn.specs.Code.Giving.{GivesTurn};
 ghost use Rattle.turn.specs.Turning.{Turns};
 
+use found::Found;
 use lent::fine;
 use members::{Unhit, choose, find_unhit, own};
 use sets::{EMPTY, SETTINGS_MOST, Set, full, with, without};
 use setups::{Refusal, SETS_MOST};
-
-// The sets found so far, rising, in the first `filled` of the lent places.
-#[derive(Drop)]
-struct Found<'a> {
-    places: &'a mut [Set],
-    filled: usize,
-}
-
-impl Found<'_> {
-    fn sets(&self) -> &[Set]
-        requires { self.now.filled ≤ length self.now.places.now }
-        ensures { result.now ≡ sets_of self.now }
-    {
-        &self.places[..self.filled]
-    }
-
-    // Puts a set in its place, if one is left; the larger ones move on by one.
-    fn insert(&mut self, set: Set) -> Result<(), Refusal>
-        requires { Sorted self.old }
-        ensures { Inserts set self.old self.new result }
-    {
-        let filled = self.filled;
-        if filled == self.places.len() {
-            return Err(Refusal::TooMany);
-        }
-        let at = self.sets().partition_point(|&other| other < set);
-        self.places.copy_within(at..filled, at + 1);
-        self.places[at] = set;
-        self.filled = filled + 1;
-        Ok(())
-    }
-}
 
 // A branch of the search: some settings are taken, some are left to take or leave, the others are out.
 #[derive(Clone, Copy)]
@@ -108,7 +79,7 @@ fn give_out(
         taken: EMPTY,
         left: full(count),
     };
-    let mut found = Found { places, filled: 0 };
+    let mut found = Found::new(places);
     whole.search(&mut found)?;
     let turned = found.sets();
     list[..turned.len()].copy_from_slice(turned);

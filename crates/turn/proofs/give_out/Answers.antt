@@ -18,9 +18,9 @@ pub returns-in_err-search : goal.returns-in_err-search
 returns-in_err-search c =
     let refused = err_from_is_err_and c.from_residual.result c.from_residual.ensures.1 in
     let e = all (goal.at.returns-in_err-search c).After-full in
-    rw (refused.1, refused.2, c.in_err-search.ensures.0) (gives_too_many c.args.count refl c.requires.1 (rw e at c.in_err-search.ensures.1))
+    rw (refused.1, refused.2, c.in_err-search.ensures.0) (gives_too_many c.args.count c.new-found.ensures.none (c.new-found.ensures.room ∙ c.requires.1) (rw e at c.in_err-search.ensures.1))
 
 pub returns : goal.returns
 returns c =
     let e = all (goal.at.returns c).After-full in
-    rw (c.copy_from_slice.ensures.after, c.sets-turned.ensures) (gives_list c.args.count refl c.requires.1 (rw e at c.in_ok-search.ensures) refl)
+    rw (c.copy_from_slice.ensures.after, c.sets-turned.ensures) (gives_list c.args.count c.new-found.ensures.none (c.new-found.ensures.room ∙ c.requires.1) (rw e at c.in_ok-search.ensures) refl)

@@ -1,9 +1,9 @@
 -- The sets found as they grow: the first of the lent places hold them, rising.
-use Rattle.std.specs.Prelude.{◌≡◌, refl, ◌⊎◌, Result, Ok, Err, List, [], ◌∷◌, ℕ, ◌≤◌, ◌<◌, min, max, length, take}
+use Rattle.std.specs.Prelude.{◌≡◌, refl, ◌⊎◌, Result, Ok, Err, List, [], ◌∷◌, ℕ, ◌<◌, min, max, length, take}
 use Rattle.sets.specs.Lists.{Among, Rising}
 use Rattle.setups.specs.declared.Refusal.{Refusal}
 use Rattle.setups.specs.declared.Refusal.TheVariants.{TooMany}
-use Rattle.turn.specs.declared.Found.{Found}
+use Rattle.turn.specs.declared.found.Found.{Found}
 
 -- the sets, and how many places there are
 abbrev pub sets_of : Found → List ℕ
@@ -21,15 +21,9 @@ placed S (R ∷ list) = min S R ∷ placed (max S R) list
 example_placed : placed 6 (5 ∷ 10 ∷ []) ≡ 5 ∷ 6 ∷ 10 ∷ []
 example_placed = refl
 
--- what a set is put into: places, of which the first hold sets, rising
-pub record Sorted (found : Found) : Type 0 where
-  pub few : found.filled ≤ room_of found
-  pub rising : Rising (sets_of found)
-
 -- the set is put there; or it isn't, because every place is filled
 pub record Inserted (S : ℕ) (before after : Found) : Type 0 where
   pub room : room_of after ≡ room_of before
-  pub few : after.filled ≤ room_of after
   pub sets : sets_of after ≡ placed S (sets_of before)
 
 abbrev pub Inserts : ℕ → Found → Found → Result (Unit {0}) Refusal → Type 0
@@ -38,13 +32,11 @@ Inserts S before after (Err refusal) = (refusal ≡ TooMany) × (before.filled �
 
 -- what a search for the sets of a family is given: sets that were found before, none of them of the family
 pub record Ready (Family : ℕ → Type 0) (found : Found) : Type 0 where
-  pub sorted : Sorted found
   pub fresh : (S : ℕ) → Among S (sets_of found) → ¬ Family S
 
 -- what it gives back: those, and the sets of the family besides
 pub record Added (Family : ℕ → Type 0) (before after : Found) : Type 0 where
   pub room : room_of after ≡ room_of before
-  pub sorted : Sorted after
   pub kept : (S : ℕ) → Among S (sets_of before) → Among S (sets_of after)
   pub sound : (S : ℕ) → Among S (sets_of after) → Among S (sets_of before) ⊎ Family S
   pub whole : (S : ℕ) → Family S → Among S (sets_of after)

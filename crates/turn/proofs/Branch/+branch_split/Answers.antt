@@ -1,5 +1,6 @@
 -- `turn::Branch::search` and `turn::Branch::split`, which call each other, meet their contracts: a branch is empty, holds the taken
 -- settings alone, or turns on some settings; each of these is taken, and then left.
+use mathlib.Core.Path.{refl}
 use Prim.Native.Nat.{ℕ}
 use native.Mathlib.Omega.{arith}
 use Rattle.std.proofs.lemmas.Result.{err_from_is_err_and}
@@ -20,6 +21,11 @@ search-returns-then-own-self t c = added_none c.requires (own_empty c.own.result
 pub search-returns-in-Nothing : goal.search-returns-in-Nothing
 search-returns-in-Nothing t c =
     grown_one c.requires _ c.insert.result (hit_one c.own.result c.own.ensures c.if-own-self.false c.in-Nothing.ensures) c.insert.ensures
+
+pub search-insert-requires : goal.search-insert-requires
+search-insert-requires t c =
+    let taken = c.args.self.taken in
+    λ h. c.requires.fresh taken h ((hit_one c.own.result c.own.ensures c.if-own-self.false c.in-Nothing.ensures taken).1 refl)
 
 pub search-returns-in-Hopeless : goal.search-returns-in-Hopeless
 search-returns-in-Hopeless t c = added_none c.requires (lost_empty c.in-Hopeless.ensures)
