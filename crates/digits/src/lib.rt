@@ -6,7 +6,7 @@ ghost use Rattle.std.proofs.lemmas.List.Edits.{sets};
 ghost use Rattle.digits.specs.Digits.{is_digit, digit_value, digit_of, byte_of, digits};
 
 // How many values a digit has.
-pub const DIGITS: u8 = 0x10;
+const DIGITS: u8 = 0x10;
 
 // A digit's value; none where the byte isn't one of 0-9 and A-F.
 #[tactic(auto, unfolding(crate::specs::Digits::between))]

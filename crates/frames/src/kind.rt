@@ -3,7 +3,7 @@ ghost use Rattle.std.specs.Prelude.{◌≡◌, MatchResult};
 ghost use Rattle.frames.specs.declared.kind.Kind.{Kind};
 ghost use Rattle.frames.specs.Code.Kinds.{byte_of_kind};
 
-#[derive(Clone, Copy, PartialEq, Eq)]
+#[derive(Clone, Copy)]
 pub enum Kind {
     Header = 0x10,
     Hard = 0x20,

@@ -5,6 +5,6 @@ mod frames;
 mod kind;
 mod reader;
 
-pub use frames::{Found, Frame, HEADER_LINE, LINE_FEED, put_frame};
+pub use frames::{Found, Frame, LINE_FEED, put_frame};
 pub use kind::{Kind, NoKind};
 pub use reader::FrameReader;
