@@ -262,3 +262,6 @@ module _ {t : List ℕ} {before : FrameReader} {count hards softs line : ℕ} (u
       line_last l =
           let j : judge t ≡ good count u.h u.s = sym closes ∙ follow_end t r.next (line + 1) (closed count u.h u.s) l in
           rw (j, u.hard_is, u.soft_is)
+
+-- what has been counted after each clause
+pub ruleset counts = (hard_more, soft_more)

@@ -40,7 +40,7 @@ impl From<BadLine> for Refusal {
 
 // What a text says, in numbers: the header is the first line and comes once, clauses follow in any mixture, then comes FF, and
 // nothing after it.
-#[tactic(auto, using(crate::proofs::Passing::hard_more, crate::proofs::Passing::soft_more))]
+#[tactic(auto, using(crate::proofs::Passing::counts))]
 fn check(text: &[u8]) -> Result<ReadSetup, BadLine>
     ensures { result ≡ checked (judge text.now) }
 {
@@ -93,6 +93,7 @@ fn literal_digits(text: &[u8], literals: usize, next: usize) -> &[u8]
 }
 
 // Copies the clauses of a good text to the buffers, which hold them.
+#[tactic(auto, using(crate::proofs::Filling::fills))]
 fn fill(text: &[u8], hard: &mut [u8], soft: &mut [u8])
     requires { Held text.now hard.old soft.old }
     ensures { (hard.new ≡ sets hard.old 0 (hard_of (judge text.now))) × (soft.new ≡ sets soft.old 0 (soft_of (judge text.now))) }
@@ -115,6 +116,7 @@ fn fill(text: &[u8], hard: &mut [u8], soft: &mut [u8])
 }
 
 // Reads a setup from lines of hexadecimal. It doesn't judge the variable count or the literals.
+#[tactic(auto, using(crate::proofs::Answers::answers))]
 pub fn read(text: &[u8], hard: &mut [u8], soft: &mut [u8]) -> Result<ReadSetup, Refusal>
     ensures { Reads text.now hard.old soft.old result hard.new soft.new }
 {

@@ -4,14 +4,17 @@ use mathlib.Core.Bool.{Bool, true, true≢false}
 use mathlib.Core.List.{List, [], ◌∷◌, ◌++◌, append_assoc}
 use Prim.Native.Nat.{ℕ, zero, suc, ◌+◌, ◌*◌, ◌-◌, ◌≤◌, ◌<◌, zero-le}
 use native.Mathlib.Nat.{zero-add}
-use native.Mathlib.Numerals.{add-two}
 use native.Mathlib.Omega.{arith}
 use borrow.Author.Tests.{ne_eqb}
 use lib.Dec.{eqb}
-use lib.ListN.{length, take, drop, set, length-append}
+use lib.ListN.{length, take, drop, length-append}
 use lib.Seq.{sets, drop-nil, drop-append_seam}
 use Rattle.std.proofs.Common.{min}
 use Rattle.std.specs.List.{position_or_len, IsFirstMatchOrLen}
+use Rattle.std.specs.Fn.{Called, ComputesKey}
+use Rattle.std.proofs.lemmas.List.Sorted.{answers_always}
+use denote.Param.Members.{Mut}
+use denote.Ref.{Bor}
 use Rattle.std.proofs.lemmas.List.{take-append-le}
 use Rattle.std.proofs.lemmas.List.Sums.{passes_at_first, position_or_len_is}
 use Rattle.numbers.proofs.Deciding.{T_true}
@@ -104,7 +107,7 @@ first_end_at bytes i f h =
     let fits : i ≤ length bytes = omega arith in
     sym (position_or_len_is is_end bytes i 0 fits (λ k l. h.0 k 0 zero-le l) (λ l. h.1 l 0))
 
-pub cut : (bytes piece rest : List ℕ) (i : ℕ) → bytes ≡ piece ++ rest → length piece ≡ min (i + 1) (length bytes) → IsFirstMatchOrLen is_end bytes i
+cut : (bytes piece rest : List ℕ) (i : ℕ) → bytes ≡ piece ++ rest → length piece ≡ min (i + 1) (length bytes) → IsFirstMatchOrLen is_end bytes i
     → 0 < length bytes → ended bytes ≡ true → Cut bytes piece rest
 cut bytes piece rest i e l h more ends =
     let f = first_of_some bytes more ends in
@@ -116,13 +119,14 @@ cut bytes piece rest i e l h more ends =
     let others : drop (suc (first_end bytes)) bytes ≡ rest = rw (size, e) (drop-append_seam piece rest) in
     record { splits = f.splits ∙ rw (this, others); left_ended = rw others at (ended_drop bytes (suc (first_end bytes)) ends) }
 
--- ---- storing a line: its kind, its other bytes and LF
-
-pub line_stored : (text with_kind with_bytes bytes : List ℕ) (at byte kind : ℕ) → byte ≡ kind → with_kind ≡ sets text at (digits (byte ∷ [])) → with_bytes ≡ sets with_kind (at + 2) (digits bytes)
-    → set with_bytes (at + 2 + 2 * length bytes) line_feed ≡ sets text at (line (kind ∷ bytes))
-line_stored text with_kind with_bytes bytes at byte kind e k b =
-    let size : at + 2 + 2 * length bytes ≡ at + 2 + length (digits bytes) = omega (arith, digits_length bytes) in
-    rw (b, size) (sym (sets_append with_kind (digits bytes) (line_feed ∷ []) (at + 2)) ∙ rw (k, e, add-two at))
+-- one piece of `split_inclusive`, by a closure g that answers whether a byte is an end
+pub cut_next : {F : Type 0} (g : Mut F (Bor ℕ × Unit {0}) Bool) (f f' : F) (bytes piece rest : List ℕ)
+    → ((f : F) (a : Bor ℕ × Unit {0}) (r : Bool) (f' : F) → Called g f a r f' → r ≡ is_end a.0.now)
+    → (bytes ≡ piece ++ rest) × ((i : ℕ) × (length piece ≡ min (i + 1) (length bytes)) × ((p : ℕ → Bool) → ComputesKey g p f → ComputesKey g p f' × IsFirstMatchOrLen p bytes i)) × (0 < length bytes)
+    → ended bytes ≡ true → Cut bytes piece rest
+cut_next g f f' bytes piece rest answers steps ends =
+    let first = steps.1.2 is_end (answers_always g (λ a r. r ≡ is_end a.0.now) f answers) in
+    cut bytes piece rest steps.1.0 steps.0 steps.1.1 first.1 steps.2 ends
 
 -- ---- storing the lines of clauses: the first one's, and then the others'
 
@@ -154,23 +158,22 @@ module _ (count : ℕ) (hard soft : List ℕ) where
 then_stored : (t after again xs ys : List ℕ) (at : ℕ) → after ≡ sets t 0 xs → at ≡ length xs → again ≡ sets after at ys → again ≡ sets t 0 (xs ++ ys)
 then_stored t after again xs ys at e l a = a ∙ rw (e, l, sets_append t xs ys 0, zero-add (length xs))
 
-module _ (count : ℕ) (hard soft t t₁ t₂ t₃ t₄ : List ℕ) (after_header after_hard after_soft : ℕ) where
+module _ (count : ℕ) (hard soft t t₁ t₂ t₃ t₄ : List ℕ) (after_hard after_soft : ℕ) where
   -- the header, the clauses and FF, stored one after the other
-  pub setup_stored : after_header ≡ 5
-      → t₁ ≡ sets t 0 (line (header_kind ∷ count ∷ []))
-      → after_hard ≡ after_header + length (clause_lines hard_kind (clauses hard))
-      → t₂ ≡ sets t₁ after_header (clause_lines hard_kind (clauses hard))
+  pub setup_stored : t₁ ≡ sets t 0 (line (header_kind ∷ count ∷ []))
+      → after_hard ≡ 5 + length (clause_lines hard_kind (clauses hard))
+      → t₂ ≡ sets t₁ 5 (clause_lines hard_kind (clauses hard))
       → after_soft ≡ after_hard + length (clause_lines soft_kind (clauses soft))
       → t₃ ≡ sets t₂ after_hard (clause_lines soft_kind (clauses soft))
       → t₄ ≡ sets t₃ after_soft (line (end_kind ∷ []))
       → t₄ ≡ sets t 0 (setup_text count hard soft)
   unfolding setup_text
-  setup_stored a e₁ b e₂ c e₃ e₄ =
+  setup_stored e₁ b e₂ c e₃ e₄ =
       let first = line (header_kind ∷ count ∷ []) in
       let h = clause_lines hard_kind (clauses hard) in
       let s = clause_lines soft_kind (clauses soft) in
       let last = line (end_kind ∷ []) in
-      let hards : t₂ ≡ sets t 0 (first ++ h) = then_stored t t₁ t₂ first h after_header e₁ a e₂ in
+      let hards : t₂ ≡ sets t 0 (first ++ h) = then_stored t t₁ t₂ first h 5 e₁ refl e₂ in
       let softs : t₃ ≡ sets t 0 (first ++ h ++ s) = then_stored t t₂ t₃ (first ++ h) s after_hard hards (omega (arith, length-append first h)) e₃ in
       let ends : t₄ ≡ sets t 0 (first ++ h ++ s ++ last) = then_stored t t₃ t₄ (first ++ h ++ s) last after_soft softs (omega (arith, length-append h s)) e₄ in
       ends ∙ ap (λ (rest : List ℕ). sets t 0 (first ++ rest)) (append_assoc h s last)

@@ -4,6 +4,7 @@ use mathlib.Core.Bool.{Bool, true, not, ◌||◌}
 use mathlib.Core.List.{List, ◌++◌}
 use Prim.Native.Nat.{ℕ, ◌+◌, ◌≤◌, ◌<◌}
 use borrow.Author.Tests.{lt-ltb, le-ltb, ltb-false, eqb-true, ne_eqb}
+use native.Mathlib.Omega.{arith}
 use lib.Dec.{ltb, eqb}
 use lib.ListN.{length, drop}
 use lib.Seq.{sets}
@@ -22,7 +23,7 @@ use Rattle.write.specs.declared.JudgedSetup.{JudgedSetup}
 use Rattle.write.specs.SetupText.{literal_count, setup_text, text_length}
 use Rattle.write.specs.Write.{WriteResult, setup_refusal, write_refusal, write_result}
 use Rattle.write.specs.Writing.{answered}
-use Rattle.write.proofs.ClauseLines.{literals_and_ends, measured}
+use Rattle.write.proofs.ClauseLines.{literals_and_ends, written_length, measured, setup_stored}
 
 -- ---- a setup that passes
 
@@ -52,21 +53,22 @@ pub ended_soft : (s : JudgedSetup) → ended s.soft.now ≡ true
 ended_soft s = (fine s.count s.hard.now s.soft.now 0 s.passes).in_clauses.soft_ended
 
 -- then every byte is a literal of some clause, or ends one
-pub record Sizes (hard soft : List ℕ) : Type 0 where
-  pub hard_bytes : literal_count (clauses hard) + length (clauses hard) ≡ length hard
-  pub soft_bytes : literal_count (clauses soft) + length (clauses soft) ≡ length soft
-  pub hard_most : length hard ≤ hard_bytes_most
-  pub soft_most : length soft ≤ soft_bytes_most
+pub hard_bytes : (s : JudgedSetup) → length (clauses s.hard.now) + literal_count (clauses s.hard.now) ≡ length s.hard.now
+hard_bytes s = omega (arith, literals_and_ends s.hard.now (ended_hard s))
 
-pub sizes : (s : JudgedSetup) → Sizes s.hard.now s.soft.now
-sizes s =
-    let f = fine s.count s.hard.now s.soft.now 0 s.passes in
-    record {
-      hard_bytes = literals_and_ends s.hard.now f.in_clauses.hard_ended;
-      soft_bytes = literals_and_ends s.soft.now f.in_clauses.soft_ended;
-      hard_most = f.hard_size;
-      soft_most = f.soft_size;
-    }
+pub soft_bytes : (s : JudgedSetup) → length (clauses s.soft.now) + literal_count (clauses s.soft.now) ≡ length s.soft.now
+soft_bytes s = omega (arith, literals_and_ends s.soft.now (ended_soft s))
+
+pub hard_most : (s : JudgedSetup) → length s.hard.now ≤ hard_bytes_most
+hard_most s = (fine s.count s.hard.now s.soft.now 0 s.passes).hard_size
+
+pub soft_most : (s : JudgedSetup) → length s.soft.now ≤ soft_bytes_most
+soft_most s = (fine s.count s.hard.now s.soft.now 0 s.passes).soft_size
+
+pub ruleset sizes = (hard_bytes, soft_bytes, hard_most, soft_most)
+
+-- what its text needs to be put
+pub ruleset stores = (ended_hard, ended_soft, written_length, setup_stored)
 
 -- what comes after the refusals is what a setup gets that passes them
 go_on : (test : Bool) (refusal : Refusal) (after : ℕ → ℕ) → (after 0 ≡ 0 → (rest : ℕ) → rest ≡ after rest) → check test refusal (after 0) ≡ 0 → (rest : ℕ) → rest ≡ check test refusal (after rest)
@@ -124,3 +126,6 @@ module _ (s : JudgedSetup) (text : List ℕ) where
       let fits : text_length s.hard.now s.soft.now ≤ length text = rw (← e) l in
       rw (e, a, sets_front text (setup_text s.count s.hard.now s.soft.now) (rw (measured s.count s.hard.now s.soft.now) at fits))
       (sym (finishes s.count s.hard.now s.soft.now text (rw (← passed s (check (ltb (length text) (text_length s.hard.now s.soft.now)) Room 0), le-ltb (length text) (text_length s.hard.now s.soft.now) fits))))
+
+-- each of Write's answers
+pub ruleset answers = (unfit, measured, no_room, wrote)

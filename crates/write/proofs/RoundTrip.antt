@@ -56,8 +56,8 @@ record Clause (c : List ℕ) : Type 0 where
 
 -- its frame, by the kind
 module _ (c : List ℕ) (f : Clause c) where
-  byte_of_kinds : (kind : ℕ) → kind < 256 → line_bytes (line (kind ∷ c)) ≡ some (kind ∷ c)
-  byte_of_kinds kind l = line_bytes_lem (kind ∷ c) each
+  kind_bytes : (kind : ℕ) → kind < 256 → line_bytes (line (kind ∷ c)) ≡ some (kind ∷ c)
+  kind_bytes kind l = line_bytes_lem (kind ∷ c) each
     where
       each : Bytes (kind ∷ c)
       each zero = l
@@ -67,10 +67,10 @@ module _ (c : List ℕ) (f : Clause c) where
   short_frame = le-leb (suc (length c)) frame_most (omega (arith, f.short))
 
   hard_back : frame (line (hard_kind ∷ c)) ≡ hard c
-  hard_back = rw (byte_of_kinds hard_kind (omega arith), short_frame, f.literals)
+  hard_back = rw (kind_bytes hard_kind (omega arith), short_frame, f.literals)
 
   soft_back : frame (line (soft_kind ∷ c)) ≡ soft c
-  soft_back = rw (byte_of_kinds soft_kind (omega arith), short_frame, f.literals)
+  soft_back = rw (kind_bytes soft_kind (omega arith), short_frame, f.literals)
 
 -- ---- the clauses of a buffer
 

@@ -1,32 +1,21 @@
 // Write: the setup is judged and its text measured before the first byte goes out.
 #![tactic(auto)]
 
-ghost use Rattle.std.specs.Prelude.{◌≡◌, true, ◌∷◌, ℕ, ◌+◌, ◌*◌, ◌<◌, ◌≤◌, length, MatchResult};
+ghost use Rattle.std.specs.Prelude.{◌≡◌, true, ℕ, ◌+◌, ◌≤◌, length, MatchResult};
 ghost use Rattle.std.proofs.lemmas.List.Edits.{sets};
 ghost use Rattle.setups.specs.Clauses.{clauses};
 ghost use Rattle.setups.specs.Refusals.{number_of, ended};
-ghost use Rattle.frames.specs.Frames.{line};
 ghost use Rattle.frames.specs.Code.Kinds.{byte_of_kind};
 ghost use Rattle.write.specs.SetupText.{clause_lines, setup_text, text_length};
 ghost use Rattle.write.specs.Write.{setup_refusal};
 ghost use Rattle.write.specs.Writing.{Writes};
 
-use digits::{put_byte, put_bytes};
-use frames::{Kind, LINE_FEED};
+use frames::{Kind, put_frame};
 use numbers::VARIABLES_MOST;
 use setups::{HARD_BYTES_MOST, Refusal, SOFT_BYTES_MOST, clause_count, judge_clauses};
 
-// Writes the line of a frame, its kind and then its other bytes, and tells the place after it.
-fn put_line(text: &mut [u8], at: usize, kind: Kind, bytes: &[u8]) -> usize
-    requires { at + (2 * length bytes.now + 3) ≤ length text.old }
-    ensures { (result ≡ at + (2 * length bytes.now + 3)) × (text.new ≡ sets text.old at (line (byte_of_kind kind ∷ bytes.now))) }
-{
-    let end = at + 2 + 2 * bytes.len();
-    put_byte(text, at, u8::from(kind));
-    put_bytes(text, at + 2, bytes);
-    text[end] = LINE_FEED;
-    end + 1
-}
+// How long the header's line is: two bytes of two digits, and LF.
+const HEADER_LINE: usize = 5;
 
 // Writes a line for each clause of a buffer, and tells the place after them.
 fn put_clauses(text: &mut [u8], at: usize, kind: Kind, bytes: &[u8]) -> usize
@@ -35,7 +24,9 @@ fn put_clauses(text: &mut [u8], at: usize, kind: Kind, bytes: &[u8]) -> usize
 {
     let mut to = at;
     for clause in bytes.split_inclusive(|byte| *byte == 0) {
-        to = put_line(text, to, kind, &clause[..clause.len() - 1]);
+        let literals = &clause[..clause.len() - 1];
+        put_frame(text, to, u8::from(kind), literals);
+        to += 2 * literals.len() + 3;
     }
     to
 }
@@ -65,6 +56,7 @@ impl<'a> JudgedSetup<'a> {
     }
 
     // How long its text is: "2 × literals + 3 × clauses + 8".
+    #[tactic(auto, using(crate::proofs::Refusing::sizes), unfolding(crate::specs::SetupText::text_length))]
     fn text_length(&self) -> usize
         ensures { result ≡ text_length self.now.hard.now self.now.soft.now }
     {
@@ -74,18 +66,20 @@ impl<'a> JudgedSetup<'a> {
     }
 
     // Writes the header, the hard clauses, the soft clauses and FF.
+    #[tactic(auto, using(crate::proofs::Refusing::stores))]
     fn put(&self, text: &mut [u8])
         requires { length (setup_text self.now.count self.now.hard.now self.now.soft.now) ≤ length text.old }
         ensures { text.new ≡ sets text.old 0 (setup_text self.now.count self.now.hard.now self.now.soft.now) }
     {
-        let after_header = put_line(text, 0, Kind::Header, &[self.count as u8]);
-        let after_hard = put_clauses(text, after_header, Kind::Hard, self.hard);
+        put_frame(text, 0, u8::from(Kind::Header), &[self.count as u8]);
+        let after_hard = put_clauses(text, HEADER_LINE, Kind::Hard, self.hard);
         let after_soft = put_clauses(text, after_hard, Kind::Soft, self.soft);
-        put_line(text, after_soft, Kind::End, &[]);
+        put_frame(text, after_soft, u8::from(Kind::End), &[]);
     }
 }
 
 // Writes a setup as lines of hexadecimal, and tells how many places of the text buffer it filled, or why it can't.
+#[tactic(auto, using(crate::proofs::Refusing::answers))]
 pub fn write(count: u32, hard: &[u8], soft: &[u8], text: &mut [u8]) -> Result<usize, Refusal>
     ensures { Writes count hard.now soft.now text.old result text.new }
 {
