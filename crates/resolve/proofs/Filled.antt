@@ -1,4 +1,5 @@
 -- How many places Read has filled.
+use Rattle.std.proofs.Common.{Result, Ok}
 use mathlib.Core.Path.{◌≡◌, sym, subst}
 use mathlib.Core.List.{List}
 use Prim.Native.Nat.{ℕ, ◌≤◌, zero-le}
@@ -6,8 +7,8 @@ use native.Mathlib.Omega.{arith}
 use lib.Dec.{eqb}
 use lib.ListN.{length, drop, length-append}
 use Rattle.numbers.proofs.Deciding.{cond_case}
-use Rattle.read.specs.declared.Reading.{Reading}
-use Rattle.read.specs.declared.Reading.TheVariants.{Read}
+use Rattle.setups.specs.declared.Refusal.{Refusal}
+use Rattle.read.specs.declared.ReadSetup.{ReadSetup}
 use Rattle.read.specs.Texts.{judge, hard_of, soft_of}
 use Rattle.read.specs.Read.{ReadResult, read_refusal, read_result}
 use Rattle.setups.specs.Written.{written}
@@ -27,7 +28,7 @@ read_fits text hard soft r e =
     (cond_case ReadFits (eqb (read_refusal text (length hard) (length soft)) 0)
     (λ q. (filled_fits (hard_of (judge text)) hard, filled_fits (soft_of (judge text)) soft)) (λ q. (zero-le, zero-le)))
 
-pub read_places : (text hard soft : List ℕ) (answer : Reading) (hard' soft' : List ℕ) → read_answered answer hard' soft' ≡ read_result text hard soft
-    → (variables hard_filled soft_filled : ℕ) → answer ≡ Read variables hard_filled soft_filled → (hard_filled ≤ length hard') × (soft_filled ≤ length soft')
-read_places text hard soft answer hard' soft' p variables hard_filled soft_filled e =
-    read_fits text hard soft (read_answered (Read variables hard_filled soft_filled) hard' soft') (rw e at p)
+pub read_places : (text hard soft : List ℕ) (answer : Result ReadSetup Refusal) (hard' soft' : List ℕ) → read_answered answer hard' soft' ≡ read_result text hard soft
+    → (s : ReadSetup) → answer ≡ Ok s → (s.hard_filled ≤ length hard') × (s.soft_filled ≤ length soft')
+read_places text hard soft answer hard' soft' p s e =
+    read_fits text hard soft (read_answered (Ok s) hard' soft') (rw e at p)

@@ -9,15 +9,13 @@ ghost use Rattle.lines.specs.Lines.{answer_lines, Puts};
 ghost use Rattle.resolve.specs.Code.Parts.{AnswersTurn, PutsOrRefuses};
 ghost use Rattle.resolve.specs.Resolve.{PutsOut, Answers, Resolves};
 
-use lines::{CLASH, LAST_LINE, SET_LINE, put_answer, put_last, put_line, put_refusal};
+use lines::{LAST_LINE, LineKind, SET_LINE, put_answer, put_last, put_line, put_refusal};
 use list::Listing;
-use read::Reading;
+use read::ReadSetup;
 use sets::{EMPTY, Set};
 use setups::{
-    FINISHED, HARD_BYTES_MOST, Refusal, SETS_MOST, SOFT_BYTES_MOST, UNMET, refusal_number,
-    settings_count,
+    FINISHED, HARD_BYTES_MOST, Refusal, SETS_MOST, SOFT_BYTES_MOST, UNMET, settings_count,
 };
-use turn::Turning;
 
 // How many bytes come out at the most: two full lists of lines, and the last line.
 pub const OUTPUT_MOST: usize = 2 * SETS_MOST * SET_LINE + LAST_LINE;
@@ -31,7 +29,7 @@ type Output = [u8; OUTPUT_MOST];
 fn put_unmet(output: &mut Output) -> usize
     ensures { Puts (answer_lines unmet [] (0 ∷ [])) output.old result output.new }
 {
-    put_line(output, 0, CLASH, EMPTY);
+    put_line(output, 0, LineKind::Clash.into(), EMPTY);
     put_last(output, SET_LINE, UNMET, 0, 1);
     SET_LINE + LAST_LINE
 }
@@ -47,10 +45,8 @@ fn put_turned(
     ensures { PutsOrRefuses (AnswersTurn settings ways.now scratch.old) result output.old output.new }
 {
     let mut clashes = [EMPTY; SETS_MOST];
-    match turn::turn(settings, ways, &mut clashes, scratch) {
-        Turning::Refused(refusal) => Err(refusal),
-        Turning::Listed(filled) => Ok(put_answer(output, FINISHED, ways, &clashes[..filled])),
-    }
+    let filled = turn::turn(settings, ways, &mut clashes, scratch)?;
+    Ok(put_answer(output, FINISHED, ways, &clashes[..filled]))
 }
 
 // The setup that was read is resolved.
@@ -59,8 +55,7 @@ fn put_resolved(count: u32, hard: &[u8], soft: &[u8], output: &mut Output) -> Re
 {
     let mut ways = [EMPTY; SETS_MOST];
     let mut scratch = [EMPTY; SCRATCH_PLACES];
-    match list::list(count, hard, soft, &mut ways, &mut scratch) {
-        Listing::Refused(refusal) => Err(refusal),
+    match list::list(count, hard, soft, &mut ways, &mut scratch)? {
         Listing::Unmet => Ok(put_unmet(output)),
         Listing::Listed(filled) => put_turned(
             settings_count(soft) as u32,
@@ -77,14 +72,12 @@ fn put_text(text: &[u8], output: &mut Output) -> Result<usize, Refusal>
 {
     let mut hard = [0u8; HARD_BYTES_MOST];
     let mut soft = [0u8; SOFT_BYTES_MOST];
-    match read::read(text, &mut hard, &mut soft) {
-        Reading::Refused(refusal) => Err(refusal),
-        Reading::Read {
-            count,
-            hard_filled,
-            soft_filled,
-        } => put_resolved(count, &hard[..hard_filled], &soft[..soft_filled], output),
-    }
+    let ReadSetup {
+        count,
+        hard_filled,
+        soft_filled,
+    } = read::read(text, &mut hard, &mut soft)?;
+    put_resolved(count, &hard[..hard_filled], &soft[..soft_filled], output)
 }
 
 // Puts out what the frames of the text are answered by, and tells how many bytes that is. The first refusal stands alone.
@@ -93,6 +86,6 @@ pub fn resolve(text: &[u8], output: &mut [u8; OUTPUT_MOST]) -> usize
 {
     match put_text(text, output) {
         Ok(filled) => filled,
-        Err(refusal) => put_refusal(output, refusal_number(refusal)),
+        Err(refusal) => put_refusal(output, refusal.into()),
     }
 }
