@@ -1,8 +1,8 @@
 // A call of Ask, `A count clauses assumed budget modelroom`, and its answer, `A number visits model`.
+use crate::answers::Run;
 use crate::fields::{Failure, number, room, run};
-use crate::places::Run;
 use ask::Asked;
-use setups::{FINISHED, NO_MODEL, refusal_number};
+use setups::{FINISHED, NO_MODEL};
 use std::alloc::Global;
 
 pub fn answer(alloc: Global, fields: &[&[u8]]) -> Result<String, Failure> {
@@ -15,9 +15,9 @@ pub fn answer(alloc: Global, fields: &[&[u8]]) -> Result<String, Failure> {
     let budget = number(budget)?;
     let mut model = room::<u8>(alloc, model_room)?;
     let (number, visits) = match ask::ask(count, &clauses, &assumed, budget, &mut model) {
-        Asked::Model(visits) => (FINISHED, visits),
-        Asked::None(visits) => (NO_MODEL, visits),
-        Asked::Refused(refusal) => (refusal_number(refusal), 0),
+        Ok(Asked::Model(visits)) => (FINISHED, visits),
+        Ok(Asked::None(visits)) => (NO_MODEL, visits),
+        Err(refusal) => (refusal.into(), 0),
     };
     let model = Run(&model);
     Ok(format!(in alloc; "A {number:08X} {visits:08X} {model}")?)

@@ -1,6 +1,6 @@
 // The fields of a call, each a number, a run of places or how many places are lent, in upper-case hexadecimal digits.
 use crate::places::Place;
-use digits::{digit_value, is_digit};
+use digits::digit_value;
 use std::alloc::{AllocError, AllocFailed, Global};
 
 // How many digits a number has.
@@ -28,23 +28,19 @@ impl<T: Drop> From<AllocFailed<T>> for Failure {
     }
 }
 
-// What digits stand for, the high one first; of more than eight the last eight count.
-pub fn value(digits: &[u8]) -> Result<u32, Failure> {
-    let mut value = 0;
-    for digit in digits {
-        if !is_digit(*digit) {
-            return Err(Failure::NoCall);
-        }
-        value = value << 4 | u32::from(digit_value(*digit));
-    }
-    Ok(value)
+// What digits stand for, the high one first; of more than eight the last eight count. None where another byte is among them.
+pub fn value(digits: &[u8]) -> Option<u32> {
+    digits.iter().try_fold(
+        0,
+        |value: u32, digit| Some(value << 4 | u32::from(digit_value(*digit)?)),
+    )
 }
 
 pub fn number(field: &[u8]) -> Result<u32, Failure> {
     if field.len() != NUMBER_DIGITS {
         return Err(Failure::NoCall);
     }
-    value(field)
+    value(field).ok_or(Failure::NoCall)
 }
 
 // The places of a run.
@@ -58,7 +54,7 @@ pub fn run<P: Place>(alloc: Global, field: &[u8]) -> Result<Vec<P>, Failure> {
         return Err(Failure::NoCall);
     }
     for digits in parts {
-        places.push(P::from_digits(digits)?)?;
+        places.push(P::from_digits(digits).ok_or(Failure::NoCall)?)?;
     }
     Ok(places)
 }

@@ -1,9 +1,9 @@
 // A call of List, `L count hard soft room scratchroom`, and its answer, `L number filled list scratch`.
+use crate::answers::Run;
 use crate::fields::{Failure, number, room, run};
-use crate::places::Run;
 use list::Listing;
 use sets::Set;
-use setups::{FINISHED, UNMET, refusal_number};
+use setups::{FINISHED, UNMET};
 use std::alloc::Global;
 
 pub fn answer(alloc: Global, fields: &[&[u8]]) -> Result<String, Failure> {
@@ -16,9 +16,9 @@ pub fn answer(alloc: Global, fields: &[&[u8]]) -> Result<String, Failure> {
     let mut ways_out = room::<Set>(alloc, list_room)?;
     let mut scratch = room::<Set>(alloc, scratch_room)?;
     let (number, filled) = match list::list(count, &hard, &soft, &mut ways_out, &mut scratch) {
-        Listing::Listed(filled) => (FINISHED, filled),
-        Listing::Unmet => (UNMET, 0),
-        Listing::Refused(refusal) => (refusal_number(refusal), 0),
+        Ok(Listing::Listed(filled)) => (FINISHED, filled),
+        Ok(Listing::Unmet) => (UNMET, 0),
+        Err(refusal) => (refusal.into(), 0),
     };
     let ways_out = Run(&ways_out);
     let scratch = Run(&scratch);

@@ -2,6 +2,7 @@
 // implementation. A line that is no such call, the empty line too, is answered by `?` alone.
 #![tactic(auto)]
 
+mod answers;
 mod ask_call;
 mod fields;
 mod list_call;

@@ -1,9 +1,7 @@
 // A call of Mark, `M settings list markroom`, and its answer, `M number filled marks`.
+use crate::answers::{Run, outcome};
 use crate::fields::{Failure, number, room, run};
-use crate::places::Run;
-use mark::Marking;
 use sets::Set;
-use setups::{FINISHED, refusal_number};
 use std::alloc::Global;
 
 pub fn answer(alloc: Global, fields: &[&[u8]]) -> Result<String, Failure> {
@@ -13,10 +11,7 @@ pub fn answer(alloc: Global, fields: &[&[u8]]) -> Result<String, Failure> {
     let settings = number(settings)?;
     let list = run::<Set>(alloc, list)?;
     let mut marks = room::<u8>(alloc, mark_room)?;
-    let (number, filled) = match mark::mark(settings, &list, &mut marks) {
-        Marking::Marked(filled) => (FINISHED, filled),
-        Marking::Refused(refusal) => (refusal_number(refusal), 0),
-    };
+    let (number, filled) = outcome(mark::mark(settings, &list, &mut marks));
     let marks = Run(&marks);
     Ok(format!(in alloc; "M {number:08X} {filled:08X} {marks}")?)
 }

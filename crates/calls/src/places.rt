@@ -2,7 +2,7 @@
 ghost use Rattle.std.specs.Prelude.{ℕ, ◌<◌};
 ghost use Rattle.std.proofs.Common.{rules};
 
-use crate::fields::{EMPTY_RUN, Failure, value};
+use crate::fields::value;
 use sets::Set;
 use std::fmt;
 
@@ -18,7 +18,7 @@ pub trait Place: Copy {
     // What each lent place holds before the call.
     const OLD: Self;
 
-    fn from_digits(digits: &[u8]) -> Result<Self, Failure>;
+    fn from_digits(digits: &[u8]) -> Option<Self>;
 
     fn write_digits<W: fmt::Write>(self, to: &mut fmt::Formatter<W>) -> fmt::Result;
 
@@ -34,8 +34,8 @@ impl Place for u8 {
 
     const OLD: u8 = 0xA5;
 
-    fn from_digits(digits: &[u8]) -> Result<u8, Failure> {
-        u8::try_from(value(digits)?).or(Err(Failure::NoCall))
+    fn from_digits(digits: &[u8]) -> Option<u8> {
+        u8::try_from(value(digits)?).ok()
     }
 
     fn write_digits<W: fmt::Write>(self, to: &mut fmt::Formatter<W>) -> fmt::Result {
@@ -54,7 +54,7 @@ impl Place for Set {
 
     const OLD: Set = 0xA5A5_A5A5;
 
-    fn from_digits(digits: &[u8]) -> Result<Set, Failure> {
+    fn from_digits(digits: &[u8]) -> Option<Set> {
         value(digits)
     }
 
@@ -63,20 +63,4 @@ impl Place for Set {
     }
 
     ghost some_digits = { Prim.search rules };
-}
-
-// The field of a run of places.
-#[derive(Drop)]
-pub struct Run<'a, P>(pub &'a [P]);
-
-impl<P: Place> fmt::Display for Run<'_, P> {
-    fn fmt<W: fmt::Write>(&self, to: &mut fmt::Formatter<W>) -> fmt::Result {
-        if self.0.is_empty() {
-            return to.write_str(EMPTY_RUN);
-        }
-        for place in self.0 {
-            place.write_digits(to)?;
-        }
-        Ok(())
-    }
 }

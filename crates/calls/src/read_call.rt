@@ -1,8 +1,8 @@
 // A call of Read, `R text hardroom softroom`, and its answer, `R number count hardfilled softfilled hard soft`.
+use crate::answers::Run;
 use crate::fields::{Failure, room, run};
-use crate::places::Run;
-use read::Reading;
-use setups::{FINISHED, refusal_number};
+use read::ReadSetup;
+use setups::FINISHED;
 use std::alloc::Global;
 
 pub fn answer(alloc: Global, fields: &[&[u8]]) -> Result<String, Failure> {
@@ -13,12 +13,14 @@ pub fn answer(alloc: Global, fields: &[&[u8]]) -> Result<String, Failure> {
     let mut hard = room::<u8>(alloc, hard_room)?;
     let mut soft = room::<u8>(alloc, soft_room)?;
     let (number, count, hard_filled, soft_filled) = match read::read(&text, &mut hard, &mut soft) {
-        Reading::Read {
-            count,
-            hard_filled,
-            soft_filled,
-        } => (FINISHED, count, hard_filled, soft_filled),
-        Reading::Refused(refusal) => (refusal_number(refusal), 0, 0, 0),
+        Ok(
+            ReadSetup {
+                count,
+                hard_filled,
+                soft_filled,
+            },
+        ) => (FINISHED, count, hard_filled, soft_filled),
+        Err(refusal) => (refusal.into(), 0, 0, 0),
     };
     let hard = Run(&hard);
     let soft = Run(&soft);
