@@ -1,16 +1,16 @@
 -- From what a search tells to what an ask gives back.
-use mathlib.Core.Path.{◌≡◌, sym, ap, ◌∙◌}
+use mathlib.Core.Path.{◌≡◌, ap, ◌∙◌}
 use mathlib.Core.Logic.{by_cases}
-use mathlib.Core.List.{List, []}
+use mathlib.Core.List.{List, [], ◌++◌}
 use Prim.Native.Nat.{ℕ, ◌-◌, ◌≤◌}
 use native.Mathlib.Nat.{zero-add}
 use native.Mathlib.Decide.{dec_lt}
 use native.Mathlib.Omega.{arith}
 use borrow.Author.Tests.{lt-ltb, le-ltb, ne_eqb}
-use lib.ListN.{length, take, replicate}
+use lib.ListN.{length, take, drop, replicate}
 use lib.Seq.{take_at}
+use Rattle.std.specs.Prelude.{Result, Ok, Err}
 use Rattle.setups.specs.declared.Refusal.{Refusal}
-use Rattle.setups.specs.declared.Refusal.TheVariants.{Spent}
 use Rattle.setups.specs.Limits.{variables_most}
 use Rattle.setups.specs.Clauses.{LiteralOf}
 use Rattle.literals.specs.Slots.{opening}
@@ -18,15 +18,13 @@ use Rattle.setups.specs.Search.{SearchResult, Model, None}
 use Rattle.setups.specs.Searching.{visit, search}
 use Rattle.setups.specs.Meaning.{Means}
 use Rattle.setups.specs.Refusals.{number_of}
-use Rattle.setups.specs.Written.{written}
 use Rattle.setups.specs.Ask.{AskResult, ask_clauses, ask_refusal, searched_result, ask_result}
 use Rattle.setups.proofs.LiteralLaws.{clause_bytes, assumed_bytes}
 use Rattle.setups.proofs.Models.{search_means}
 use Rattle.setups.proofs.Refusals.{refused_number}
 use Rattle.scans.specs.Scans.{ReadableAll}
-use Rattle.search.specs.declared.Outcome.{Outcome}
-use Rattle.search.specs.declared.Outcome.TheVariants as outcome
 use Rattle.search.specs.declared.Visited.{Visited}
+use Rattle.search.specs.declared.Visited.TheVariants as visited
 use Rattle.search.specs.Told.{told}
 use Rattle.ask.specs.declared.Asked.TheVariants as asked
 use Rattle.ask.specs.Asking.{answered}
@@ -50,57 +48,38 @@ readable {n} {bytes} {assumed} t = record {
 -- ---- what the search tells
 
 -- what an ask gives back when its search has ended so
-abbrev made : ℕ → List ℕ → Outcome → ℕ → List ℕ → AskResult
-made n places outcome.Model used values = answered (asked.Model used) (written (take n values) places)
-made n places outcome.None used values = answered (asked.None used) places
-made n places outcome.Spent used values = answered (asked.Refused Spent) places
-
-abbrev made_of : ℕ → List ℕ → Visited → AskResult
-made_of n places a = made n places a.outcome a.used a.values
+abbrev pub made : ℕ → List ℕ → Result Visited Refusal → AskResult
+made n places (Ok (visited.Model values used)) = answered (Ok (asked.Model used)) (take n values ++ drop n places)
+made n places (Ok (visited.None used)) = answered (Ok (asked.None used)) places
+made n places (Err refusal) = answered (Err refusal) places
 
 told_made : (n budget k : ℕ) (cs : List (List ℕ)) (places : List ℕ) (r : SearchResult) → Means n cs r
-    → made_of n places (told budget 0 (padded k r)) ≡ searched_result budget places r
+    → made n places (told budget 0 (padded k r)) ≡ searched_result budget places r
 unfolding told
 told_made n budget k cs places (Model m visits) means =
     by_cases (dec_lt budget visits) (λ l. rw (zero-add visits, lt-ltb budget visits l))
     (λ g.
     let l : visits ≤ budget = omega arith in
-    rw (zero-add visits, le-ltb budget visits l, take_at m (replicate k 0) n means.assigns.size))
+    rw (zero-add visits, le-ltb budget visits l, take_at m (replicate k 0) n means.assigns.size, means.assigns.size))
 told_made n budget k cs places (None visits) means =
     by_cases (dec_lt budget visits) (λ l. rw (zero-add visits, lt-ltb budget visits l))
     (λ g.
     let l : visits ≤ budget = omega arith in
     rw (zero-add visits, le-ltb budget visits l))
 
-module _ (n budget : ℕ) (cs : List (List ℕ)) (places : List ℕ) (a : Visited) (is : a ≡ told budget 0 (visit cs (opening n))) where
-  search_made : made_of n places a ≡ searched_result budget places (search n cs)
-  unfolding search
-  search_made =
-      ap (made_of n places) (is ∙ ap (told budget 0) (visit_pad (variables_most - n) cs (replicate n 2)))
-      ∙ told_made n budget (variables_most - n) cs places (search n cs) (search_means n cs)
-
-  ended : (o : Outcome) → a.outcome ≡ o → made n places o a.used a.values ≡ searched_result budget places (search n cs)
-  ended o e = ap (λ (o : Outcome). made n places o a.used a.values) (sym e) ∙ search_made
-
-  pub gives_model : a.outcome ≡ outcome.Model → (after : List ℕ) → after ≡ written (take n a.values) places
-      → answered (asked.Model a.used) after ≡ searched_result budget places (search n cs)
-  gives_model e after w = ap (answered (asked.Model a.used)) w ∙ ended outcome.Model e
-
-  pub gives_none : a.outcome ≡ outcome.None → answered (asked.None a.used) places ≡ searched_result budget places (search n cs)
-  gives_none e = ended outcome.None e
-
-  pub gives_spent : a.outcome ≡ outcome.Spent → answered (asked.Refused Spent) places ≡ searched_result budget places (search n cs)
-  gives_spent e = ended outcome.Spent e
-
 -- ---- what an ask gives back
 
 pub refused_result : (n : ℕ) (bytes assumed : List ℕ) (budget : ℕ) (places : List ℕ) (refusal : Refusal)
     → number_of refusal ≡ ask_refusal n bytes assumed (length places)
-    → answered (asked.Refused refusal) places ≡ ask_result n bytes assumed budget places
+    → answered (Err refusal) places ≡ ask_result n bytes assumed budget places
 unfolding ask_result
 refused_result n bytes assumed budget places refusal e = rw (← e, ne_eqb (number_of refusal) 0 (refused_number refusal))
 
-pub searched_result_lem : (n : ℕ) (bytes assumed : List ℕ) (budget : ℕ) (places : List ℕ) → 0 ≡ ask_refusal n bytes assumed (length places)
-    → searched_result budget places (search n (ask_clauses bytes assumed)) ≡ ask_result n bytes assumed budget places
-unfolding ask_result
-searched_result_lem n bytes assumed budget places e = rw (← e)
+pub made_result : (n : ℕ) (bytes assumed : List ℕ) (budget : ℕ) (places : List ℕ) (a : Result Visited Refusal)
+    → 0 ≡ ask_refusal n bytes assumed (length places) → a ≡ told budget 0 (visit (ask_clauses bytes assumed) (opening n))
+    → made n places a ≡ ask_result n bytes assumed budget places
+unfolding ask_result search
+made_result n bytes assumed budget places a e is =
+    let cs = ask_clauses bytes assumed in
+    ap (made n places) (is ∙ ap (told budget 0) (visit_pad (variables_most - n) cs (replicate n 2)))
+    ∙ told_made n budget (variables_most - n) cs places (search n cs) (search_means n cs) ∙ rw (← e)

@@ -12,95 +12,49 @@ mod read_call;
 mod turn_call;
 mod write_call;
 
-ghost use Rattle.std.specs.Prelude.{◌≤◌, length, IfOk};
-
-use answers::write_byte;
-use fields::{
-    BYTE_ROOM, BYTE_RUN, END, FIELDS_MOST, Kinds, NO_KIND, NUMBER, SET_ROOM, SET_RUN, find,
-};
+use fields::Failure;
 use frames::LINE_FEED;
-use std::io::{self, Read, Stdin};
+use std::alloc::Global;
+use std::io::{self, Read};
 
 // How many bytes of input are taken at the most: 2 MiB.
-const INPUT_MOST: usize = 0x20_0000;
+const INPUT_MOST: u64 = 0x20_0000;
 
-type Input = [u8; INPUT_MOST];
+// What stands between two fields.
+const SPACE: u8 = b' ';
 
-// The answer to a line that is no call.
-const NO_CALL: u8 = b'?';
-
-// The kinds of the fields of a letter's call.
-fn kinds(letter: u8) -> Kinds {
-    match letter {
-        b'A' => [NUMBER, BYTE_RUN, BYTE_RUN, NUMBER, BYTE_ROOM],
-        b'L' => [NUMBER, BYTE_RUN, BYTE_RUN, SET_ROOM, SET_ROOM],
-        b'T' => [NUMBER, SET_RUN, SET_ROOM, SET_ROOM, END],
-        b'M' => [NUMBER, SET_RUN, BYTE_ROOM, END, END],
-        b'R' => [BYTE_RUN, BYTE_ROOM, BYTE_ROOM, END, END],
-        b'W' => [NUMBER, BYTE_RUN, BYTE_RUN, BYTE_ROOM, END],
-        _ => [NO_KIND; FIELDS_MOST],
+// What answers a line: the letter is its first field, and the fields after it are the job's.
+fn answer(alloc: Global, line: &[u8]) -> Result<String, Failure> {
+    let fields: Vec<&[u8]> = line.split(|byte| *byte == SPACE).collect(alloc)?;
+    match fields.as_slice() {
+        [b"A", fields @ ..] => ask_call::answer(alloc, fields),
+        [b"L", fields @ ..] => list_call::answer(alloc, fields),
+        [b"T", fields @ ..] => turn_call::answer(alloc, fields),
+        [b"M", fields @ ..] => mark_call::answer(alloc, fields),
+        [b"R", fields @ ..] => read_call::answer(alloc, fields),
+        [b"W", fields @ ..] => write_call::answer(alloc, fields),
+        _ => Err(Failure::NoCall),
     }
 }
 
-// The letter of a call; NO_CALL where the line is none.
-fn letter(line: &[u8]) -> u8 {
-    let first = fields::field(line, 0);
-    if first.len() == 1 && fields::are_kinds(line, kinds(first[0])) {
-        first[0]
-    } else {
-        NO_CALL
+// Writes what answers a line; what lies after the last line feed is no call.
+fn write_answer(rt: &impl Print, alloc: Global, line: &[u8]) -> io::Result<()> {
+    let answered = match line.strip_suffix(&[LINE_FEED]) {
+        Some(line) => answer(alloc, line),
+        None => Err(Failure::NoCall),
+    };
+    match answered {
+        Ok(answer) => println!(rt; "{answer}"),
+        Err(Failure::NoCall) => println!(rt; "?"),
+        Err(Failure::OutOfMemory(error)) => Err(error.into()),
     }
-}
-
-// Writes what answers a line: the letter, and what its job answers.
-fn answer(rt: &impl Print, line: &[u8]) -> io::Result<()> {
-    let letter = letter(line);
-    write_byte(rt, letter)?;
-    match letter {
-        b'A' => ask_call::answer(rt, line),
-        b'L' => list_call::answer(rt, line),
-        b'T' => turn_call::answer(rt, line),
-        b'M' => mark_call::answer(rt, line),
-        b'R' => read_call::answer(rt, line),
-        b'W' => write_call::answer(rt, line),
-        _ => Ok(()),
-    }
-}
-
-// Answers the lines of the input in order; what lies after the last line feed is no call.
-fn answer_all(rt: &impl Print, input: &[u8]) -> io::Result<()> {
-    let mut start = 0;
-    while start < input.len() {
-        let end = find(input, start, LINE_FEED);
-        if end < input.len() {
-            answer(rt, &input[start..end])?;
-        } else {
-            write_byte(rt, NO_CALL)?;
-        }
-        write_byte(rt, LINE_FEED)?;
-        start = end + 1;
-    }
-    Ok(())
-}
-
-// Reads until the places are full or the input ends, and tells how many bytes that is. `take` lets no more through than there are places;
-// `min` says so once more for the proof, since `copy` doesn't promise it.
-fn read_input(from: Stdin, mut places: &mut [u8]) -> io::Result<usize>
-    ensures { IfOk result (λ taken. taken ≤ length places.new) }
-{
-    let most = places.len();
-    let taken = io::copy(&mut from.take(most as u64), &mut places)?;
-    Ok(most.min(taken as usize))
-}
-
-// Reads standard input to its end and answers it.
-fn answer_input(rt: &HostRuntime, places: &mut Input) -> io::Result<()> {
-    let taken = read_input(rt.stdin(), places)?;
-    let input = &places[..];
-    answer_all(rt, &input[..taken])
 }
 
 fn main(rt: HostRuntime) -> io::Result<()> {
-    let mut places = [0u8; INPUT_MOST];
-    answer_input(&rt, &mut places)
+    let mut input = Vec::new(rt.alloc());
+    rt.stdin().take(INPUT_MOST).read_to_end(&mut input)?;
+    for line in input.split_inclusive(|byte| *byte == LINE_FEED) {
+        write_answer(&rt, rt.alloc(), line)?;
+    }
+    Ok(())
 }

@@ -1,27 +1,17 @@
 // A call of Mark, `M settings list markroom`, and its answer, `M number filled marks`.
-use crate::places::{BYTES_MOST, OLD_BYTE, OLD_SET, SETS_MOST};
-use crate::{answers, fields};
-use mark::Marking;
-use std::io;
+use crate::answers::{Run, outcome};
+use crate::fields::{Failure, number, room, run};
+use sets::Set;
+use std::alloc::Global;
 
-// Calls Mark on the fields, with what is lent to it.
-fn marking(line: &[u8], marks: &mut [u8]) -> Marking {
-    let mut places = [OLD_SET; SETS_MOST];
-    let settings = fields::number_of(line, 1);
-    let given = fields::sets_of(line, 2, &mut places);
-    mark::mark(settings, given, marks)
-}
-
-fn write_outcome(rt: &impl Print, marking: Marking) -> io::Result<()> {
-    match marking {
-        Marking::Marked(filled) => answers::write_outcome(rt, setups::FINISHED, filled as u64),
-        Marking::Refused(refusal) => answers::write_refused(rt, refusal),
-    }
-}
-
-pub fn answer(rt: &impl Print, line: &[u8]) -> io::Result<()> {
-    let mut places = [OLD_BYTE; BYTES_MOST];
-    let marks = fields::byte_room(line, 3, &mut places);
-    write_outcome(rt, marking(line, marks))?;
-    answers::write_bytes(rt, marks)
+pub fn answer(alloc: Global, fields: &[&[u8]]) -> Result<String, Failure> {
+    let [settings, list, mark_room] = fields else {
+        return Err(Failure::NoCall);
+    };
+    let settings = number(settings)?;
+    let list = run::<Set>(alloc, list)?;
+    let mut marks = room::<u8>(alloc, mark_room)?;
+    let (number, filled) = outcome(mark::mark(settings, &list, &mut marks));
+    let marks = Run(&marks);
+    Ok(format!(in alloc; "M {number:08X} {filled:08X} {marks}")?)
 }

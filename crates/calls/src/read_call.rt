@@ -1,46 +1,30 @@
 // A call of Read, `R text hardroom softroom`, and its answer, `R number count hardfilled softfilled hard soft`.
-use crate::places::{BYTES_MOST, OLD_BYTE};
-use crate::{answers, fields};
-use read::Reading;
-use std::io;
+use crate::answers::Run;
+use crate::fields::{Failure, room, run};
+use read::ReadSetup;
+use setups::FINISHED;
+use std::alloc::Global;
 
-// Calls Read on the fields, with what is lent to it.
-fn reading(line: &[u8], hard: &mut [u8], soft: &mut [u8]) -> Reading {
-    let mut places = [OLD_BYTE; BYTES_MOST];
-    let text = fields::bytes_of(line, 1, &mut places);
-    read::read(text, hard, soft)
-}
-
-// Writes what the answer begins with: the outcome, whose count is the variables', and how many places of each buffer were filled.
-fn write_counts(
-    rt: &impl Print,
-    number: u8,
-    count: u32,
-    hard: usize,
-    soft: usize,
-) -> io::Result<()> {
-    answers::write_outcome(rt, number, count as u64)?;
-    answers::write_number(rt, hard as u64)?;
-    answers::write_number(rt, soft as u64)
-}
-
-fn write_outcome(rt: &impl Print, reading: Reading) -> io::Result<()> {
-    match reading {
-        Reading::Read {
-            count,
-            hard_filled,
-            soft_filled,
-        } => write_counts(rt, setups::FINISHED, count, hard_filled, soft_filled),
-        Reading::Refused(refusal) => write_counts(rt, setups::refusal_number(refusal), 0, 0, 0),
-    }
-}
-
-pub fn answer(rt: &impl Print, line: &[u8]) -> io::Result<()> {
-    let mut hard_places = [OLD_BYTE; BYTES_MOST];
-    let mut soft_places = [OLD_BYTE; BYTES_MOST];
-    let hard = fields::byte_room(line, 2, &mut hard_places);
-    let soft = fields::byte_room(line, 3, &mut soft_places);
-    write_outcome(rt, reading(line, hard, soft))?;
-    answers::write_bytes(rt, hard)?;
-    answers::write_bytes(rt, soft)
+pub fn answer(alloc: Global, fields: &[&[u8]]) -> Result<String, Failure> {
+    let [text, hard_room, soft_room] = fields else {
+        return Err(Failure::NoCall);
+    };
+    let text = run::<u8>(alloc, text)?;
+    let mut hard = room::<u8>(alloc, hard_room)?;
+    let mut soft = room::<u8>(alloc, soft_room)?;
+    let (number, count, hard_filled, soft_filled) = match read::read(&text, &mut hard, &mut soft) {
+        Ok(
+            ReadSetup {
+                count,
+                hard_filled,
+                soft_filled,
+            },
+        ) => (FINISHED, count, hard_filled, soft_filled),
+        Err(refusal) => (refusal.into(), 0, 0, 0),
+    };
+    let hard = Run(&hard);
+    let soft = Run(&soft);
+    Ok(format!(in alloc;
+        "R {number:08X} {count:08X} {hard_filled:08X} {soft_filled:08X} {hard} {soft}"
+    )?)
 }

@@ -8,6 +8,7 @@ use native.Mathlib.Omega.{arith}
 use borrow.Author.Tests.{eqb-true, eqb-false, eq-eqb, ltb-true, ltb-false}
 use lib.Dec.{T, eqb, ltb, eqb→eq}
 use lib.ListN.{get_or, set}
+use Rattle.std.specs.Prelude.{Option, Some, None}
 use Rattle.numbers.proofs.Deciding.{cond_case, bool_case}
 use Rattle.setups.specs.Clauses.{wish}
 use Rattle.setups.specs.Searching.{free_count, more, see_value}
@@ -17,50 +18,43 @@ use Rattle.setups.proofs.Settling.{wish_small}
 use Rattle.literals.specs.Slots.{slot, AllSet}
 use Rattle.forcing.specs.Holding.{is_true}
 use Rattle.forcing.specs.Values.{AgreesWith}
-use Rattle.forcing.specs.Rules.{KeepsAnswers, Sees, StillFree, EndsTrue}
+use Rattle.forcing.specs.Rules.{Keeps, KeepsAnswers, Sees, StillFree, EndsTrue}
 use Rattle.forcing.specs.declared.forcing.Progress.{Progress}
 use Rattle.forcing.proofs.ValueLaws.{free_set_le, free_set_lt, agrees_set}
 
 -- ---- rules
 
 -- no rule at all
-pub answers_still : {Answer : List ℕ → Type 0} {now : Progress} → now.fails ≡ false → KeepsAnswers Answer now now
-answers_still {now = now} fine = record {
+pub keeps_still : {Answer : List ℕ → Type 0} {now : Progress} → Keeps Answer now now
+keeps_still {now = now} = record {
   less = le_refl (free_count now.values);
   moves = λ f t. absurd (true≢false (sym t ∙ f));
-  stays = λ m d a agrees. (fine, agrees);
-}
-
--- it fails, and no answer agrees
-pub answers_none : {Answer : List ℕ → Type 0} (now : Progress) → ((m : List ℕ) → AllSet m → Answer m → ¬ AgreesWith now.values m)
-    → KeepsAnswers Answer now (record { fails = true; moved = now.moved; values = now.values })
-answers_none now none = record {
-  less = le_refl (free_count now.values);
-  moves = λ f t. absurd (true≢false (sym t ∙ f));
-  stays = λ m d a agrees. absurd (none m d a agrees);
+  stays = λ m d a agrees. agrees;
 }
 
 -- a rule keeps the answers of a narrower kind too
-pub answers_fewer : {A B : List ℕ → Type 0} {a b : Progress} → KeepsAnswers B a b → ((m : List ℕ) → A m → B m) → KeepsAnswers A a b
-answers_fewer step still = record {
+pub answers_fewer : {A B : List ℕ → Type 0} (a : Progress) (r : Option Progress) → KeepsAnswers B a r → ((m : List ℕ) → A m → B m) → KeepsAnswers A a r
+answers_fewer a (Some b) step still = record {
   less = step.less;
   moves = step.moves;
   stays = λ m d x agrees. step.stays m d (still m x) agrees;
 }
+answers_fewer a None none still = λ m d x agrees. none m d (still m x) agrees
 
 -- one rule after another, where each answer of the first is one of the second
-pub answers_then : {A B : List ℕ → Type 0} {a b c : Progress} → KeepsAnswers A a b → KeepsAnswers B b c
-    → ((m : List ℕ) → AllSet m → A m → AgreesWith a.values m → B m) → KeepsAnswers A a c
-answers_then {a = a} {b = b} {c = c} first second still = record {
+pub answers_then : {A B : List ℕ → Type 0} {a b : Progress} (r : Option Progress) → Keeps A a b → KeepsAnswers B b r
+    → ((m : List ℕ) → AllSet m → A m → AgreesWith a.values m → B m) → KeepsAnswers A a r
+answers_then {a = a} {b = b} (Some c) first second still = record {
   less = omega (arith, first.less, second.less);
   moves = moves;
-  stays = λ m d x agrees. second.stays m d (still m d x agrees) (first.stays m d x agrees).1;
+  stays = λ m d x agrees. second.stays m d (still m d x agrees) (first.stays m d x agrees);
 }
   where
     moves : a.moved ≡ false → c.moved ≡ true → free_count c.values < free_count a.values
     moves f t =
         bool_case (λ q. b.moved ≡ q → free_count c.values < free_count a.values) b.moved
         (λ e p. omega (arith, first.moves f p, second.less)) (λ e p. omega (arith, first.less, second.moves p t)) refl
+answers_then None first none still = λ m d x agrees. none m d (still m d x agrees) (first.stays m d x agrees)
 
 -- ---- a clause, a literal at a time
 
@@ -99,39 +93,37 @@ fresh_more values seen b f =
 
 -- ---- the end of a clause that is due
 
-module _ (now : Progress) where
+module _ (now : Progress) (seen : Seen) where
   -- wholly false
-  pub ends_false : (due : Bool) (seen : Seen) → T due → seen ≡ AllFalse
-      → KeepsAnswers (λ m. T due → EndsTrue m seen) now (record { fails = true; moved = now.moved; values = now.values })
-  ends_false due seen d e = answers_none now (λ m _ a _. let end = subst (EndsTrue m) e (a d) in subst T end.1 end.2)
+  pub ends_false : seen ≡ AllFalse → KeepsAnswers (λ m. EndsTrue m seen) now None
+  ends_false e m _ a _ = let end = subst (EndsTrue m) e a in subst T end.1 end.2
 
   -- one free literal
-  pub ends_one : (due : Bool) (seen : Seen) (b : ℕ) → T due → seen ≡ OneFree b → StillFree now.values seen
-      → KeepsAnswers (λ m. T due → EndsTrue m seen) now (record { fails = false; moved = true; values = set now.values (slot b) (wish b) })
-  ends_one due seen b d e f = record {
+  pub ends_one : (b : ℕ) → seen ≡ OneFree b → StillFree now.values seen
+      → KeepsAnswers (λ m. EndsTrue m seen) now (Some (record { moved = true; values = set now.values (slot b) (wish b) }))
+  ends_one b e f = record {
     less = free_set_le now.values (slot b) (wish b) (le_of_suc-le-suc (wish_small b));
     moves = λ _ _. free_set_lt now.values (slot b) (wish b) (subst (StillFree now.values) e f) (le_of_suc-le-suc (wish_small b));
     stays = λ m _ a agrees.
-        let end = subst (EndsTrue m) e (a d) in
-        (refl, agrees_set now.values m (slot b) (wish b) agrees (eqb→eq (get_or m (slot b) 0) (wish b) (subst T end.1 end.2)));
+        let end = subst (EndsTrue m) e a in
+        agrees_set now.values m (slot b) (wish b) agrees (eqb→eq (get_or m (slot b) 0) (wish b) (subst T end.1 end.2));
   }
 
 -- ---- a literal that has to be false
 
 module _ (now : Progress) (b : ℕ) where
   -- it is true
-  pub denied_true : get_or now.values (slot b) 0 ≡ wish b
-      → KeepsAnswers (λ m. is_true m b ≡ false) now (record { fails = true; moved = now.moved; values = now.values })
-  denied_true e =
-      answers_none now (λ m _ a agrees. true≢false (sym (eq-eqb (get_or m (slot b) 0) (wish b) (agrees (slot b) (omega (arith, wish_small b)) ∙ e)) ∙ a))
+  pub denied_true : get_or now.values (slot b) 0 ≡ wish b → KeepsAnswers (λ m. is_true m b ≡ false) now None
+  denied_true e m _ a agrees =
+      true≢false (sym (eq-eqb (get_or m (slot b) 0) (wish b) (agrees (slot b) (omega (arith, wish_small b)) ∙ e)) ∙ a)
 
   -- it is false or free
   pub denied : KeepsAnswers (λ m. is_true m b ≡ false) now
-      (record { fails = false; moved = now.moved; values = set now.values (slot b) (1 - wish b) })
+      (Some (record { moved = now.moved; values = set now.values (slot b) (1 - wish b) }))
   denied = record {
     less = free_set_le now.values (slot b) (1 - wish b) (omega arith);
     moves = λ f t. absurd (true≢false (sym t ∙ f));
     stays = λ m d a agrees.
         let other : get_or m (slot b) 0 ≡ 1 - wish b = omega (arith, d (slot b), eqb-false (get_or m (slot b) 0) (wish b) a, wish_small b) in
-        (refl, agrees_set now.values m (slot b) (1 - wish b) agrees other);
+        agrees_set now.values m (slot b) (1 - wish b) agrees other;
   }

@@ -2,7 +2,7 @@
 use mathlib.Core.Path.{◌≡◌}
 use mathlib.Core.Logic.Iff
 use mathlib.Core.Logic.{◌⊎◌, inl, inr, ⊎_elim, ◌↔◌, ◌≢◌}
-use mathlib.Core.Bool.{Bool, true, false}
+use mathlib.Core.Bool.{Bool, true}
 use mathlib.Core.List.{List, ◌∷◌}
 use Prim.Native.Nat.{ℕ, ◌+◌, ◌^◌, ◌≤◌, ◌<◌, min, zero-le}
 use native.Mathlib.Numerals.{add-one}
@@ -27,13 +27,6 @@ beyond S n s l h = omega (arith, in_below settings_most s h)
 pub has_selector : (b : Bool) (S n k : ℕ) → n < settings_most → k ≡ n + 1 → (b ≡ true) ↔ Share S (only settings_most k)
     → (b ≡ true) ↔ In n S
 has_selector b S n k l e h = Iff.trans h (rw (e, add-one) (share_only settings_most n S l))
-
--- nothing is added where the setting does not count, or a set cannot have it
-pub adds_nothing : (S n : ℕ) (counts : Bool) → counts ≡ false → Adds S counts n S
-adds_nothing S n counts e i = (inl, ⊎_elim (λ h. h) (λ h. absurd (rw e at h.0)))
-
-pub adds_beyond : (S n : ℕ) (counts : Bool) → settings_most ≤ n → Adds S counts n S
-adds_beyond S n counts l i = (inl, ⊎_elim (λ h. h) (λ h. absurd (let b : ⊥ = omega arith in b)))
 
 -- `with`, given the setting of selector n
 pub adds_one : (S n k R : ℕ) (counts : Bool) → counts ≡ true → n < settings_most → k ≡ n + 1 → Joins S (only settings_most k) R

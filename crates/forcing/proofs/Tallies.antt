@@ -1,5 +1,5 @@
 -- The set of the settings that hold, counted along the soft buffer.
-use mathlib.Core.Path.{◌≡◌, ap}
+use mathlib.Core.Path.{◌≡◌, refl}
 use mathlib.Core.Logic.Iff
 use mathlib.Core.Logic.{◌⊎◌, inl, inr, ⊎_elim, ◌↔◌, ◌≢◌}
 use mathlib.Core.Bool.{Bool, false, ◌||◌}
@@ -18,8 +18,10 @@ use Rattle.setups.specs.Clauses.{clauses}
 use Rattle.literals.specs.Slots.{slot}
 use Rattle.forcing.specs.Holding.{is_true, may_be, holds}
 use Rattle.forcing.specs.Selectors.{next_selector, Adds}
-use Rattle.forcing.specs.Standings.{nothing_read, looked, Stands}
+use Rattle.forcing.specs.Standings.{looked, Stands}
 use Rattle.forcing.specs.declared.standing.Chance.{Chance}
+use Rattle.forcing.specs.declared.standing.Chance.TheVariants.{AllFalse}
+use Rattle.forcing.proofs.StandingLaws.{is_sure, is_possible, looked_sure, looked_possible}
 use Rattle.forcing.proofs.Verdicts.{verdicts, verdict_holds, verdicts_past, verdicts_end, verdicts_literal}
 
 -- the setting at place j is one of those whose verdicts these are, the first of them at selector n
@@ -83,30 +85,25 @@ module _ {test : ℕ → Bool} {soft : List ℕ} {set : ℕ} {sofar : Bool} {n i
 -- ---- both sets at once: the settings that are true so far, and those that may become so
 
 pub record Counting (values soft : List ℕ) (sure possible : ℕ) (chance : Chance) (n i : ℕ) : Type 0 where
-  pub trues : Tallying (is_true values) soft sure chance.sure n i
-  pub opens : Tallying (may_be values) soft possible chance.possible n i
+  pub trues : Tallying (is_true values) soft sure (is_sure chance) n i
+  pub opens : Tallying (may_be values) soft possible (is_possible chance) n i
 
-pub standing_starts : {values soft : List ℕ} {chance : Chance} {n : ℕ} → chance ≡ nothing_read → n ≡ 0 → Counting values soft 0 0 chance n 0
-standing_starts e z =
-    record { trues = tallying_starts (ap (λ (x : Chance). x.sure) e) z; opens = tallying_starts (ap (λ (x : Chance). x.possible) e) z }
+pub standing_starts : {values soft : List ℕ} {n : ℕ} → n ≡ 0 → Counting values soft 0 0 AllFalse n 0
+standing_starts z = record { trues = tallying_starts refl z; opens = tallying_starts refl z }
 
 module _ {values soft : List ℕ} {sure possible : ℕ} {chance : Chance} {n i : ℕ} (at : Counting values soft sure possible chance n i) where
-  pub standing_ends : i < length soft → get_or soft i 0 ≡ 0 → {sure' possible' n' : ℕ} {chance' : Chance}
-      → Adds sure chance.sure n sure' → Adds possible chance.possible n possible' → n' ≡ next_selector n → chance' ≡ nothing_read
-      → Counting values soft sure' possible' chance' n' (i + 1)
-  standing_ends l z a b e f = record {
-    trues = tallying_ends at.trues l z a e (ap (λ (x : Chance). x.sure) f);
-    opens = tallying_ends at.opens l z b e (ap (λ (x : Chance). x.possible) f);
-  }
+  pub standing_ends : i < length soft → get_or soft i 0 ≡ 0 → {sure' possible' n' : ℕ}
+      → Adds sure (is_sure chance) n sure' → Adds possible (is_possible chance) n possible' → n' ≡ next_selector n
+      → Counting values soft sure' possible' AllFalse n' (i + 1)
+  standing_ends l z a b e =
+      record { trues = tallying_ends at.trues l z a e refl; opens = tallying_ends at.opens l z b e refl }
 
   pub standing_reads : i < length soft → get_or soft i 0 ≢ 0 → {p : ℕ} → p ≡ slot (get_or soft i 0) → {chance' : Chance}
       → chance' ≡ looked chance (get_or soft i 0) (get_or values p 0) → Counting values soft sure possible chance' n (i + 1)
-  standing_reads l z s {chance'} f =
-      let g : chance' ≡ looked chance (get_or soft i 0) (get_or values (slot (get_or soft i 0)) 0) = rw (← s) f in
-      record {
-        trues = tallying_reads at.trues l z (ap (λ (x : Chance). x.sure) g);
-        opens = tallying_reads at.opens l z (ap (λ (x : Chance). x.possible) g);
-      }
+  standing_reads l z s e = rw (e, s) (record {
+    trues = tallying_reads at.trues l z (looked_sure chance (get_or soft i 0) (get_or values (slot (get_or soft i 0)) 0));
+    opens = tallying_reads at.opens l z (looked_possible chance (get_or soft i 0) (get_or values (slot (get_or soft i 0)) 0));
+  })
 
   pub standing_done : length soft ≤ i → Stands values soft (record { sure = sure; possible = possible })
   standing_done l = record { sure = tallying_done at.trues l; possible = tallying_done at.opens l }

@@ -1,20 +1,16 @@
 -- Values by place: what a value that is set does to the free ones and to who agrees; the first and the last values of a search.
-use mathlib.Core.Path.{◌≡◌, refl, sym, ◌∙◌, subst}
-use mathlib.Core.Logic.{◌≢◌, by_cases}
+use mathlib.Core.Path.{◌≡◌, sym}
 use mathlib.Core.List.{List, [], ◌∷◌, ◌++◌}
-use Prim.Native.Nat.{ℕ, zero, suc, ◌+◌, ◌≤◌, ◌<◌, zero-le, suc-le-suc}
-use native.Mathlib.Nat.{not-suc-le-zero, suc_inj, suc-ne-zero}
-use native.Mathlib.Decide.{ℕ_discrete}
+use Prim.Native.Nat.{ℕ, zero, suc, ◌≤◌, ◌<◌, suc-le-suc}
+use native.Mathlib.Nat.{suc_inj, suc-ne-zero}
 use native.Mathlib.Omega.{arith}
 use borrow.Author.Tests.{le-ltb}
-use lib.ListN.{length, get_or, set, replicate, length-set}
-use lib.Seq.{get_or-set_same, get_or-set_other}
+use lib.ListN.{length, get_or, set, replicate}
 use Rattle.numbers.proofs.Places.{zeros_at}
 use Rattle.setups.specs.Limits.{variables_most}
 use Rattle.setups.specs.Searching.{free_count}
 use Rattle.setups.proofs.Scanning.{free_set}
-use Rattle.literals.proofs.SlotLaws.{all_set}
-use Rattle.forcing.specs.Values.{AgreesWith, Completes}
+use Rattle.forcing.specs.Values.{AgreesWith}
 
 -- ---- one value set
 
@@ -56,36 +52,3 @@ pub record Completing (values model : List ℕ) (i : ℕ) : Type 0 where
   pub size : length model ≡ variables_most
   pub done : (j : ℕ) → j < i → get_or model j 0 < 2
   pub agrees : AgreesWith values model
-
-pub completing_starts : (values : List ℕ) → length values ≡ variables_most → Completing values values 0
-completing_starts values n = record { upto = zero-le; size = n; done = λ j l. absurd (not-suc-le-zero l); agrees = λ j h. refl }
-
-module _ (values model : List ℕ) (i : ℕ) (at : Completing values model i) (l : i < variables_most) where
-  -- the value at i is 0 or 1
-  pub completing_skips : get_or model i 0 < 2 → Completing values model (i + 1)
-  completing_skips h = record {
-    upto = omega arith;
-    size = at.size;
-    done = λ j k. by_cases (ℕ_discrete j i) (λ e. rw e h) (λ n. at.done j (omega arith));
-    agrees = at.agrees;
-  }
-
-  -- the value at i is free
-  pub completing_sets : 2 ≤ get_or model i 0 → Completing values (set model i 0) (i + 1)
-  completing_sets h = record {
-    upto = omega arith;
-    size = length-set model i 0 ∙ at.size;
-    done = λ j k. by_cases (ℕ_discrete j i) (λ e. rw e (omega (arith, get_or-set_same model i 0 0 (omega (arith, at.size)))))
-        (λ n. rw (get_or-set_other model i j 0 0 n) (at.done j (omega arith)));
-    agrees = λ j k.
-        let same = at.agrees j k in
-        let other : j ≢ i = λ e. let b : ⊥ = omega (arith, same, subst (λ (x : ℕ). 2 ≤ get_or model x 0) (sym e) h) in b in
-        get_or-set_other model i j 0 0 other ∙ same;
-  }
-
-pub completing_done : (values model : List ℕ) (i : ℕ) → Completing values model i → variables_most ≤ i → Completes values model
-completing_done values model i at l = record {
-  size = at.size;
-  full = all_set model (λ j k. at.done j (omega (arith, at.size)));
-  agrees = at.agrees;
-}

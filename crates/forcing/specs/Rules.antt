@@ -1,5 +1,5 @@
 -- What every rule that forces values promises: no answer is lost.
-use Rattle.std.specs.Prelude.{◌≡◌, refl, Bool, true, false, List, [], ◌∷◌, ℕ, ◌≤◌, ◌<◌, get_or, T}
+use Rattle.std.specs.Prelude.{◌≡◌, refl, Bool, true, false, List, [], ◌∷◌, ℕ, ◌≤◌, ◌<◌, get_or, T, Option, Some, None}
 use Rattle.setups.specs.Searching.{free_count}
 use Rattle.setups.specs.declared.Seen.{Seen}
 use Rattle.setups.specs.declared.Seen.TheVariants.{AllFalse, OneFree, Enough}
@@ -9,14 +9,19 @@ use Rattle.forcing.specs.Values.{AgreesWith}
 use Rattle.forcing.specs.declared.forcing.Progress.{Progress}
 
 abbrev pub unmoved : List ℕ → Progress
-unmoved values = record { fails = false; moved = false; values = values }
+unmoved values = record { moved = false; values = values }
 
--- From `now` to r: an answer that agrees with the values of `now` agrees with those of r, and then r does not fail. Where r
--- has moved and `now` has not, fewer values are free.
-pub record KeepsAnswers (Answer : List ℕ → Type 0) (now r : Progress) : Type 0 where
+-- From `now` to r: an answer that agrees with the values of `now` agrees with those of r. Where r has moved and `now` has not, fewer
+-- values are free.
+pub record Keeps (Answer : List ℕ → Type 0) (now r : Progress) : Type 0 where
   pub less : free_count r.values ≤ free_count now.values
   pub moves : now.moved ≡ false → r.moved ≡ true → free_count r.values < free_count now.values
-  pub stays : (m : List ℕ) → AllSet m → Answer m → AgreesWith now.values m → (r.fails ≡ false) × AgreesWith r.values m
+  pub stays : (m : List ℕ) → AllSet m → Answer m → AgreesWith now.values m → AgreesWith r.values m
+
+-- a rule fails only where no answer agrees with the values of `now`
+abbrev pub KeepsAnswers : (List ℕ → Type 0) → Progress → Option Progress → Type 0
+KeepsAnswers Answer now (Some r) = Keeps Answer now r
+KeepsAnswers Answer now None = (m : List ℕ) → AllSet m → Answer m → ¬ AgreesWith now.values m
 
 -- what a clause so far says of the truth t, under m, of the literals that it has seen
 abbrev pub Sees : List ℕ → Seen → Bool → Type 0

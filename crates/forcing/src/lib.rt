@@ -7,6 +7,6 @@ mod standing;
 mod values;
 
 pub use forcing::{Progress, force_both, give_up};
-pub use selectors::{FIRST_SELECTOR, Owed, next_selector, owes};
+pub use selectors::{FIRST_SELECTOR, has_selector, next_selector};
 pub use standing::{Standing, met, stand};
 pub use values::{complete, with_false, with_true};

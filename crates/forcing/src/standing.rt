@@ -15,56 +15,41 @@ pub struct Standing {
     pub possible: Set,
 }
 
-// A clause so far: it has a true literal; it has one that is true or free.
-#[derive(Clone, Copy)]
-pub struct Chance {
-    pub sure: bool,
-    pub possible: bool,
+// A clause so far: each literal is false; one is free, and none is true; one is true.
+#[derive(Clone, Copy, PartialEq, Eq)]
+pub enum Chance {
+    AllFalse,
+    Possible,
+    Sure,
 }
-
-// A clause of which no literal is read.
-const UNREAD: Chance = Chance {
-    sure: false,
-    possible: false,
-};
 
 // The clause with one literal more, whose variable has this value.
 fn look(chance: Chance, literal: u8, value: u8) -> Chance
     ensures { result ≡ looked chance literal value }
 {
     if value == wish(literal) {
-        return Chance {
-            sure: true,
-            possible: true,
-        };
+        Chance::Sure
+    } else if chance == Chance::AllFalse && FREE <= value {
+        Chance::Possible
+    } else {
+        chance
     }
-    if FREE <= value {
-        return Chance {
-            sure: chance.sure,
-            possible: true,
-        };
-    }
-    chance
 }
 
 // Every clause has a true literal.
 pub fn met(values: Values, hard: &[u8]) -> bool
     ensures { result ≡ all_pass (is_true values) (clauses hard.now) }
 {
-    let mut chance = UNREAD;
-    let mut i = 0;
-    while i < hard.len() {
-        let byte = hard[i];
+    let mut chance = Chance::AllFalse;
+    for &byte in hard {
         if byte == 0 {
-            if !chance.sure {
+            if chance != Chance::Sure {
                 return false;
             }
-            chance = UNREAD;
+            chance = Chance::AllFalse;
         } else {
-            let at = slot(byte);
-            chance = look(chance, byte, values[at]);
+            chance = look(chance, byte, values[slot(byte)]);
         }
-        i += 1;
     }
     true
 }
@@ -75,21 +60,17 @@ pub fn stand(values: Values, soft: &[u8]) -> Standing
 {
     let mut sure = EMPTY;
     let mut possible = EMPTY;
-    let mut chance = UNREAD;
+    let mut chance = Chance::AllFalse;
     let mut selector = FIRST_SELECTOR;
-    let mut i = 0;
-    while i < soft.len() {
-        let byte = soft[i];
+    for &byte in soft {
         if byte == 0 {
-            sure = added(sure, chance.sure, selector);
-            possible = added(possible, chance.possible, selector);
-            chance = UNREAD;
+            sure = added(sure, chance == Chance::Sure, selector);
+            possible = added(possible, chance != Chance::AllFalse, selector);
+            chance = Chance::AllFalse;
             selector = next_selector(selector);
         } else {
-            let at = slot(byte);
-            chance = look(chance, byte, values[at]);
+            chance = look(chance, byte, values[slot(byte)]);
         }
-        i += 1;
     }
     Standing { sure, possible }
 }

@@ -1,17 +1,16 @@
 -- Found sets: the last setting of a set, and what all found sets ask of the settings.
 use mathlib.Core.Path.{◌≡◌, refl, subst}
-use mathlib.Core.Logic.{inl, ⊎_elim, by_cases}
-use mathlib.Core.Bool.{Bool, true, false}
+use mathlib.Core.Logic.{inl, ⊎_elim}
+use mathlib.Core.Bool.{Bool, true, false, false≢true}
 use mathlib.Core.List.{List}
 use Prim.Native.Nat.{ℕ, ◌+◌, ◌≤◌, ◌<◌, zero-le}
-use native.Mathlib.Nat.{not-suc-le-zero}
-use native.Mathlib.Decide.{dec_lt}
 use native.Mathlib.Omega.{arith}
 use lib.Bits.{bit_and, bit_or}
 use lib.Dec.{T}
 use lib.ListN.{length, get_or}
+use Rattle.std.specs.Prelude.{Some, None, MatchBool, ◌↔◌}
+use Rattle.std.specs.List.{AllWithin, HoldsAt}
 use Rattle.sets.specs.Sets.{In, Within, Share, AtMostOne}
-use Rattle.sets.specs.Lists.{Among}
 use Rattle.sets.specs.Tests.{has}
 use Rattle.sets.proofs.Digits.{none_in, and_in, or_joins}
 use Rattle.sets.proofs.Lists.{place_listed, listed_place}
@@ -40,11 +39,8 @@ module _ (kept possible : ℕ) (found : List ℕ) where
   narrowing_starts = record { upto = zero-le; grows = λ j h. h; only = λ test could fit. fit.keeps }
 
   -- a kept setting is not possible
-  pub narrows_kept : ¬ Within kept possible → Narrows kept possible found (record { fails = true; kept = kept })
-  narrows_kept n = record {
-    grows = λ j h. h;
-    stays = λ test could fit. absurd (n (λ j h. could j (fit.keeps j h)));
-  }
+  pub narrows_kept : ¬ Within kept possible → Narrows kept possible found None
+  narrows_kept n test could fit = n (λ j h. could j (fit.keeps j h))
 
   module _ (wider i : ℕ) (at : Narrowing kept possible found wider i) where
     -- of the set at place i one setting passes that is possible
@@ -63,49 +59,32 @@ module _ (kept possible : ℕ) (found : List ℕ) where
     }
 
     -- none of its settings is possible
-    pub narrows_none : i < length found → bit_and (get_or found i 0) possible ≡ 0
-        → Narrows kept possible found (record { fails = true; kept = wider })
-    narrows_none l e = record {
-      grows = at.grows;
-      stays = λ test could fit. let one = one_left l test could fit in absurd (none_in one.0 (subst (In one.0) e one.1));
-    }
+    pub narrows_none : i < length found → bit_and (get_or found i 0) possible ≡ 0 → Narrows kept possible found None
+    narrows_none l e test could fit = let one = one_left l test could fit in none_in one.0 (subst (In one.0) e one.1)
 
-    pub narrows_all : Narrows kept possible found (record { fails = false; kept = wider })
-    narrows_all = record { grows = at.grows; stays = λ test could fit. (refl, at.only test could fit) }
+    pub narrows_all : Narrows kept possible found (Some wider)
+    narrows_all = record { grows = at.grows; stays = at.only }
 
 -- ---- whether all is met
 
--- the sets before place i have a setting of `sure`
-pub record Fitting (kept sure : ℕ) (found : List ℕ) (i : ℕ) : Type 0 where
-  pub upto : i ≤ length found
-  pub keeps : Within kept sure
-  pub each : (j : ℕ) → j < i → Share (get_or found j 0) sure
-
 module _ (kept sure : ℕ) (found : List ℕ) where
-  pub fitting_starts : Within kept sure → Fitting kept sure found 0
-  fitting_starts w = record { upto = zero-le; keeps = w; each = λ j l. absurd (not-suc-le-zero l) }
-
-  -- what does not meet it does not fit
-  pub misses_kept : ¬ Within kept sure → ¬ Fit kept found (has sure)
-  misses_kept n fit = n (λ j h. has_in sure j (fit.keeps j h))
-
-  pub misses_one : (i : ℕ) → i < length found → ¬ Share (get_or found i 0) sure → ¬ Fit kept found (has sure)
-  misses_one i l n fit = let one = fit.each (get_or found i 0) (place_listed found i l) in n (one.0, one.1, has_in sure one.0 one.2)
-
-  module _ (i : ℕ) (at : Fitting kept sure found i) where
-    pub fitting_more : i < length found → Share (get_or found i 0) sure → Fitting kept sure found (i + 1)
-    fitting_more l s = record {
-      upto = omega arith;
-      keeps = at.keeps;
-      each = λ j k.
-          by_cases (dec_lt j i) (at.each j) (λ n. subst (λ (x : ℕ). Share (get_or found x 0) sure) (let e : i ≡ j = omega arith in e) s);
-    }
-
-    pub fitting_done : length found ≤ i → Fit kept found (has sure)
-    fitting_done l = record { keeps = λ j h. in_has sure j (at.keeps j h); each = one }
-      where
-        one : (W : ℕ) → Among W found → One W (has sure)
-        one W h =
-            let place = listed_place found W h in
-            let s = at.each place.0 (omega (arith, place.1)) in
-            (s.0, subst (In s.0) place.2 s.1, in_has sure s.0 s.2)
+  -- what has the kept settings fits where each found set shares a setting with it
+  pub fits_all : Within kept sure → (all : Bool)
+      → MatchBool all (AllWithin (λ W. Share W sure) found 0 (length found)) ((k : ℕ) × (k < length found) × HoldsAt (λ W. ¬ Share W sure) found k)
+      → (all ≡ true) ↔ Fit kept found (has sure)
+  fits_all w true each = (
+    (λ e. record {
+      keeps = λ j h. in_has sure j (w j h);
+      each = λ W h.
+          let place = listed_place found W h in
+          let s = each place.0 0 zero-le place.1 in
+          (s.0, subst (In s.0) place.2 s.1, in_has sure s.0 s.2);
+    }),
+    λ fit. refl,
+  )
+  fits_all w false missed = (
+    (λ e. absurd (false≢true e)),
+    λ fit.
+        let one = fit.each (get_or found missed.0 0) (place_listed found missed.0 missed.1) in
+        absurd (missed.2 0 (one.0, one.1, has_in sure one.0 one.2)),
+  )

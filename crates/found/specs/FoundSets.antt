@@ -1,9 +1,8 @@
 -- Kept settings and found sets, over any test of the settings.
-use Rattle.std.specs.Prelude.{◌≡◌, refl, Bool, false, List, ℕ, T}
+use Rattle.std.specs.Prelude.{refl, Bool, List, ℕ, T, Option, Some, None}
 use Rattle.sets.specs.Sets.{In, Within}
 use Rattle.sets.specs.Lists.{Among}
 use Rattle.sets.specs.Tests.{has}
-use Rattle.found.specs.declared.Narrowed.{Narrowed}
 
 -- each setting of the set passes
 abbrev pub Each : ℕ → (ℕ → Bool) → Type 0
@@ -27,7 +26,12 @@ pub record KeepsLast (kept left r : ℕ) : Type 0 where
   pub grows : Within kept r
   pub only : (test : ℕ → Bool) → Each kept test → One left test → Each r test
 
--- the same for all found sets, where only possible settings can pass; it fails only where no test passes all that is asked
-pub record Narrows (kept possible : ℕ) (found : List ℕ) (r : Narrowed) : Type 0 where
-  pub grows : Within kept r.kept
-  pub stays : (test : ℕ → Bool) → ((i : ℕ) → T (test i) → In i possible) → Fit kept found test → (r.fails ≡ false) × Each r.kept test
+-- the same for all found sets, where only possible settings can pass
+pub record Widens (kept possible : ℕ) (found : List ℕ) (wider : ℕ) : Type 0 where
+  pub grows : Within kept wider
+  pub stays : (test : ℕ → Bool) → ((i : ℕ) → T (test i) → In i possible) → Fit kept found test → Each wider test
+
+-- there are none only where no test passes all that is asked
+abbrev pub Narrows : ℕ → ℕ → List ℕ → Option ℕ → Type 0
+Narrows kept possible found (Some wider) = Widens kept possible found wider
+Narrows kept possible found None = (test : ℕ → Bool) → ((i : ℕ) → T (test i) → In i possible) → ¬ Fit kept found test

@@ -7,62 +7,35 @@ ghost use Rattle.found.specs.FoundSets.{Fit, KeepsLast, Narrows};
 
 use sets::{EMPTY, Set, at_most_one, meets, within};
 
-// The kept settings, with those that the found sets leave no choice about; or some found set has none left.
-#[derive(Clone, Copy)]
-pub struct Narrowed {
-    pub fails: bool,
-    pub kept: Set,
-}
-
 // The only setting that is left of a set is kept.
 fn keep_last(kept: Set, left: Set) -> Set
     ensures { KeepsLast kept left result }
 {
-    if at_most_one(left) {
-        return kept | left;
-    }
-    kept
+    if at_most_one(left) { kept | left } else { kept }
 }
 
-// Where only the possible settings can become true.
-pub fn narrow(kept: Set, possible: Set, found: &[Set]) -> Narrowed
+// Where only the possible settings can become true: the kept settings, with those that the found sets leave no choice about. None
+// where a kept setting is not possible, or no setting of a found set is.
+pub fn narrow(kept: Set, possible: Set, found: &[Set]) -> Option<Set>
     ensures { Narrows kept possible found.now result }
 {
     if !within(kept, possible) {
-        return Narrowed { fails: true, kept };
+        return None;
     }
     let mut wider = kept;
-    let mut i = 0;
-    while i < found.len() {
-        let left = found[i] & possible;
+    for &set in found {
+        let left = set & possible;
         if left == EMPTY {
-            return Narrowed {
-                fails: true,
-                kept: wider,
-            };
+            return None;
         }
         wider = keep_last(wider, left);
-        i += 1;
     }
-    Narrowed {
-        fails: false,
-        kept: wider,
-    }
+    Some(wider)
 }
 
 // Every kept setting and one setting of each found set is true already.
 pub fn fits(kept: Set, sure: Set, found: &[Set]) -> bool
     ensures { (result ≡ true) ↔ Fit kept found.now (has sure) }
 {
-    if !within(kept, sure) {
-        return false;
-    }
-    let mut i = 0;
-    while i < found.len() {
-        if !meets(found[i], sure) {
-            return false;
-        }
-        i += 1;
-    }
-    true
+    within(kept, sure) && found.iter().all(|&set| meets(set, sure))
 }

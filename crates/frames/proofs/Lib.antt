@@ -2,3 +2,5 @@
 
 -- lines and the frames in them
 pub mod Lines
+-- lines, stored
+pub mod Stored

@@ -1,2 +1,3 @@
 -- What describes the code: the contracts of functions inside cite it, and nobody has to believe it.
+pub mod Kinds
 pub mod Found

@@ -2,7 +2,9 @@
 #![tactic(auto)]
 
 mod frames;
+mod kind;
 mod reader;
 
-pub use frames::{END, Found, HARD, HEADER, HEADER_LINE, LINE_FEED, SOFT};
+pub use frames::{Found, Frame, LINE_FEED, put_frame};
+pub use kind::{Kind, NoKind};
 pub use reader::FrameReader;

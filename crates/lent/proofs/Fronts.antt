@@ -1,27 +1,24 @@
 -- A list taken apart from its front: what the check of a list asks is what it asks of the first set and of the rest.
-use mathlib.Core.Path.{◌≡◌, refl, sym, ◌∙◌}
+use mathlib.Core.Path.{◌≡◌, refl, sym, ◌∙◌, subst}
 use mathlib.Core.Logic.{inl, inr, ⊎_elim, ◌↔◌}
-use mathlib.Core.Bool.{true, false, false≢true}
+use mathlib.Core.Bool.{Bool, true, false, false≢true}
 use mathlib.Core.List.{List, [], ◌∷◌}
-use Prim.Native.Nat.{ℕ, ◌+◌, ◌-◌, ◌^◌, ◌≤◌, ◌<◌, min}
-use native.Mathlib.Nat.{lt_of_lt_of_le, le_of_eq}
+use Prim.Native.Nat.{ℕ, ◌-◌, ◌^◌, ◌≤◌, ◌<◌, min}
+use native.Mathlib.Nat.{lt_of_lt_of_le}
 use native.Mathlib.Omega.{arith}
-use lib.ListN.{length, get_or, take, drop, length-drop}
-use lib.Seq.{take_all}
+use lib.ListN.{length, get_or}
 use lib.Pow.{pow_pos, pow_mono}
-use Rattle.numbers.proofs.Places.{front}
+use Rattle.std.specs.Bool.{MatchBool}
+use Rattle.std.specs.List.{AllWithin, HoldsAt}
 use Rattle.sets.specs.Sets.{Within}
 use Rattle.sets.specs.Lists.{Among}
 use Rattle.sets.specs.Turns.{Fine}
 use Rattle.sets.specs.Tests.{fine}
 use Rattle.numbers.proofs.Deciding.{T_true, T_false}
+use Rattle.sets.proofs.Lists.{place_listed, listed_place}
 use Rattle.sets.proofs.Tests.{fine_iff}
 use Rattle.sets.proofs.Digits.{within_le, in_below, full_in}
 use Rattle.lent.specs.Leads.{Leads}
-
--- the part of a slice from place k on is the rest of its list from there
-pub part_rest : (list : List ℕ) (k : ℕ) → take (length list - k) (drop k list) ≡ drop k list
-part_rest list k = take_all (length list - k) (drop k list) (le_of_eq (length-drop k list))
 
 -- ---- what a loop answers
 
@@ -38,23 +35,14 @@ answers_false q = ((λ e. absurd (false≢true e)), λ h. absurd (q h))
 pub passed : {Here First Second Next Whole : Type 0} → Here ↔ (First × Second × Next) → First → Second → Here ↔ Whole → Next ↔ Whole
 passed at first second here = ((λ next. here.0 (at.1 (first, second, next))), λ whole. (at.0 (here.1 whole)).2)
 
+-- a test of every set of a list, answered by its places, answers for the sets that are listed
+pub answers_all : (P : ℕ → Type 0) (list : List ℕ) (answer : Bool)
+    → MatchBool answer (AllWithin P list 0 (length list)) ((k : ℕ) × (k < length list) × HoldsAt (λ R. ¬ P R) list k)
+    → (answer ≡ true) ↔ ((R : ℕ) → Among R list → P R)
+answers_all P list true h = answers_true (λ R l. let place = listed_place list R l in subst P place.2 (h place.0 0 (omega arith) place.1))
+answers_all P list false h = answers_false (λ f. h.2 0 (f (get_or list h.0 0) (place_listed list h.0 h.1)))
+
 -- ---- what is asked of the first set and of the rest
-
--- every set leads the empty list
-pub leads_none : (S : ℕ) → Leads S []
-leads_none S R h = absurd h
-
--- S leads others where it is below the first, lies not within it, and leads the rest
-pub leads_front : (S R : ℕ) (others : List ℕ) → Leads S (R ∷ others) ↔ ((S < R) × ¬ Within S R × Leads S others)
-leads_front S R others = (
-  (λ h. ((h R (inl refl)).0, (h R (inl refl)).1, λ Q k. h Q (inr k))),
-  λ h Q. ⊎_elim (λ e. rw e (h.0, h.1)) (h.2 Q),
-)
-
--- the same for the others from place i on
-pub leads_at : (S : ℕ) (others : List ℕ) (i : ℕ) → i < length others
-    → Leads S (drop i others) ↔ ((S < get_or others i 0) × ¬ Within S (get_or others i 0) × Leads S (drop (i + 1) others))
-leads_at S others i l = rw (front others i l) (leads_front S (get_or others i 0) (drop (i + 1) others))
 
 -- a list is fine where its first set is over n settings and leads the rest, and the rest is fine
 pub fine_front : (n S : ℕ) (list : List ℕ) → Fine n (S ∷ list) ↔ ((S < 2 ^ n) × Leads S list × Fine n list)
@@ -80,14 +68,13 @@ fine_front n S list = (to, from)
         pair A B (inr a) (inl b) w = let l = (f.1 A a).0 in absurd (let z : ⊥ = omega (arith, within_le A B w) in z)
         pair A B (inr a) (inr b) w = f.2.apart A B a b w
 
--- the same for the list from place i on
-pub fine_at : (n : ℕ) (list : List ℕ) (i : ℕ) → i < length list
-    → Fine n (drop i list) ↔ ((get_or list i 0 < 2 ^ n) × Leads (get_or list i 0) (drop (i + 1) list) × Fine n (drop (i + 1) list))
-fine_at n list i l = rw (front list i l) (fine_front n (get_or list i 0) (drop (i + 1) list))
-
 -- the empty list is fine
 pub fine_none : (n : ℕ) → Fine n []
 fine_none n = record { rising = tt; below = λ S h. absurd h; apart = λ A B h. absurd h }
+
+pub fine_end : (n : ℕ) (list : List ℕ) → length list ≡ 0 → Fine n list
+fine_end n [] e = fine_none n
+fine_end n (S ∷ list) e = absurd (let z : ⊥ = omega arith in z)
 
 -- ---- no setting above the count
 

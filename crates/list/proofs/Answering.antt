@@ -1,11 +1,10 @@
 -- The job's promise from what its parts say: a refusal before the search, or the list given out and the scratch zeroed.
 use mathlib.Core.Path.{◌≡◌, subst, ◌∙◌}
-use mathlib.Core.List.{List, ◌++◌, append-nil}
+use mathlib.Core.List.{List}
+use Rattle.std.specs.Prelude.{Result}
 use Prim.Native.Nat.{ℕ}
-use native.Mathlib.Nat.{le_of_eq}
 use borrow.Author.Tests.{ne_eqb}
-use lib.ListN.{length, take, drop, replicate, drop_of_length-le}
-use lib.Seq.{take_all}
+use lib.ListN.{length}
 use Rattle.setups.specs.declared.Refusal.{Refusal}
 use Rattle.setups.specs.Refusals.{number_of}
 use Rattle.setups.specs.Setups.{setup}
@@ -17,12 +16,6 @@ use Rattle.list.specs.Listing.{answered}
 use Rattle.list.specs.Code.Giving.{GivesWays}
 use Rattle.list.proofs.Promise.{lists_exist}
 
--- the scratch is cleared up to its whole length, after what `held` it
-pub all_cleared : (scratch held zeros : List ℕ) → length held ≡ length scratch → zeros ≡ replicate (length (take (length scratch) held)) 0
-    → zeros ++ drop (length scratch) held ≡ zeroed scratch
-all_cleared scratch held zeros same e =
-    rw (e, take_all (length scratch) held (le_of_eq same), drop_of_length-le held (le_of_eq same), append-nil, same)
-
 module _ (n : ℕ) (hard soft list scratch : List ℕ) where
   -- a refusal before the search writes nothing
   pub refused : (r : Refusal) → list_refusal n hard soft (length list) (length scratch) ≡ number_of r → ListGives n hard soft list scratch (without_list (number_of r) list scratch)
@@ -31,6 +24,6 @@ module _ (n : ℕ) (hard soft list scratch : List ℕ) where
       subst (ListGives n hard soft list scratch) (p.says ∙ rw (e, ne_eqb (number_of r) 0 (refused_number r))) p
 
   -- the list is given out and the scratch is zero
-  pub given_out_lem : list_refusal n hard soft (length list) (length scratch) ≡ 0 → {found places after : List ℕ} {answer : Listing} → GivesWays (setup n hard soft) list found answer after places
+  pub given_out_lem : list_refusal n hard soft (length list) (length scratch) ≡ 0 → {found places after : List ℕ} {answer : Result Listing Refusal} → GivesWays (setup n hard soft) list found answer after places
       → {zeros : List ℕ} → zeros ≡ zeroed scratch → ListGives n hard soft list scratch (answered answer after zeros)
   given_out_lem e h z = record { ways = h.ways; exact = h.exact; met = h.met; meets = h.meets; says = rw (e, z) (h.says scratch) }

@@ -2,6 +2,7 @@
 use mathlib.Core.Path.{◌≡◌, refl}
 use mathlib.Core.Bool.{true, false}
 use mathlib.Core.List.{List, [], ◌++◌}
+use Rattle.std.specs.Prelude.{Ok, Err}
 use Prim.Native.Nat.{ℕ, ◌+◌, ◌^◌, ◌≤◌, ◌<◌}
 use native.Mathlib.Omega.{arith}
 use lib.ListN.{length, take, drop}
@@ -13,12 +14,12 @@ use Rattle.setups.proofs.Duality.{unmet_ways_out}
 use Rattle.walk.specs.Walking.{WayOutBetween, over, Walked}
 use Rattle.walk.proofs.Overwriting.{over_take}
 use Rattle.walk.proofs.Root.{below_all, root_unmet}
-use Rattle.list.specs.declared.Listing.TheVariants.{Listed, Unmet, Refused}
+use Rattle.list.specs.declared.Listing.TheVariants.{Listed, Unmet}
 use Rattle.list.specs.Listing.{answered}
 use Rattle.list.specs.Code.Giving.{GivesWays}
 
 -- an empty branch at the root: Unmet, and no place is written
-pub root_dead : (g : Setup) (settings : ℕ) (e : settings ≡ count g) (list found : List ℕ) → ¬ WayOutBetween g 0 (0 + 2 ^ settings) → GivesWays g list found Unmet list found
+pub root_dead : (g : Setup) (settings : ℕ) (e : settings ≡ count g) (list found : List ℕ) → ¬ WayOutBetween g 0 (0 + 2 ^ settings) → GivesWays g list found (Ok Unmet) list found
 root_dead g settings e list found dead = record {
   ways = [];
   exact = unmet_ways_out g (root_unmet g settings e dead);
@@ -30,7 +31,7 @@ root_dead g settings e list found dead = record {
 
 -- the sets that were found in the first places, copied to the list
 says_listed : (ways found places list after : List ℕ) (filled : ℕ) → filled ≡ length ways → length ways ≤ length found → places ≡ over ways found
-    → filled ≤ length list → after ≡ take filled places ++ drop filled list → (scratch : List ℕ) → answered (Listed filled) after (zeroed scratch) ≡ given_out ways list scratch
+    → filled ≤ length list → after ≡ take filled places ++ drop filled list → (scratch : List ℕ) → answered (Ok (Listed filled)) after (zeroed scratch) ≡ given_out ways list scratch
 says_listed ways found places list after filled number fits written room copied scratch =
     let k : length ways ≤ length list = omega arith in
     rw (le-ltb (length list) (length ways) k, copied, number, written, over_take ways found fits)
@@ -43,7 +44,7 @@ pub record Whole (g : Setup) (list found places : List ℕ) (filled : ℕ) : Typ
 
 module _ {g : Setup} {list found places : List ℕ} {filled : ℕ} (h : Whole g list found places filled) where
   -- that place is filled
-  pub whole_many : length list < filled → GivesWays g list found (Refused TooMany) list places
+  pub whole_many : length list < filled → GivesWays g list found (Err TooMany) list places
   whole_many l = record {
     ways = h.walked.ways;
     exact = below_all g h.walked.ways h.walked.exact;
@@ -54,7 +55,7 @@ module _ {g : Setup} {list found places : List ℕ} {filled : ℕ} (h : Whole g 
   }
 
   -- it is not, and those found are copied out
-  pub whole_listed : {after : List ℕ} → filled ≤ length list → after ≡ take filled places ++ drop filled list → GivesWays g list found (Listed filled) after places
+  pub whole_listed : {after : List ℕ} → filled ≤ length list → after ≡ take filled places ++ drop filled list → GivesWays g list found (Ok (Listed filled)) after places
   whole_listed {after} l copied = record {
     ways = h.walked.ways;
     exact = below_all g h.walked.ways h.walked.exact;

@@ -4,6 +4,7 @@ use mathlib.Core.Logic.Iff
 use mathlib.Core.Logic.{⊎_elim, ◌≢◌}
 use mathlib.Core.Bool.{true, false}
 use mathlib.Core.List.{List}
+use Rattle.std.specs.Prelude.{Result, Ok, Err}
 use Prim.Native.Nat.{ℕ}
 use native.Mathlib.Omega.{arith}
 use lib.Dec.{eqb}
@@ -11,6 +12,7 @@ use lib.ListN.{length}
 use borrow.Author.Tests.{eqb-true, eqb-false}
 use Rattle.numbers.proofs.Deciding.{T-equal, T_true, T_false, cond_case}
 use Rattle.sets.proofs.Lists.{exactly_unique}
+use Rattle.setups.specs.declared.Refusal.{Refusal}
 use Rattle.setups.specs.Refusals.{unmet}
 use Rattle.setups.specs.Setups.{Setup, setup, Together, WayOut}
 use Rattle.setups.specs.Tests.{together}
@@ -22,7 +24,7 @@ use Rattle.setups.proofs.JudgeLaws.{list_most}
 use Rattle.setups.proofs.Refusals.{number_only, refused_number, refused_not_unmet}
 use Rattle.setups.proofs.Tests.{together_iff}
 use Rattle.list.specs.declared.Listing.{Listing}
-use Rattle.list.specs.declared.Listing.TheVariants.{Listed, Unmet, Refused}
+use Rattle.list.specs.declared.Listing.TheVariants.{Listed, Unmet}
 use Rattle.list.specs.Listing.{answered, Lists}
 use Rattle.list.specs.Meaning.{ListMeans}
 
@@ -47,19 +49,19 @@ list_result_only n hard soft list scratch r s p q = p.says ∙ rw (ways, met) (s
     met = T-equal p.met q.met (Iff.trans p.meets (Iff.symm q.meets))
 
 -- one result comes from one answer and two buffers
-answered_only : (answer other : Listing) (list scratch list_too scratch_too : List ℕ) → answered answer list scratch ≡ answered other list_too scratch_too
+answered_only : (answer other : Result Listing Refusal) (list scratch list_too scratch_too : List ℕ) → answered answer list scratch ≡ answered other list_too scratch_too
     → (answer ≡ other) × (list ≡ list_too) × (scratch ≡ scratch_too)
-answered_only (Listed k) (Listed j) list scratch list_too scratch_too e = (ap Listed (filled_so e), list_so e, scratch_so e)
-answered_only (Listed k) Unmet list scratch list_too scratch_too e = absurd (let b : ⊥ = omega (arith, number_so e) in b)
-answered_only (Listed k) (Refused b) list scratch list_too scratch_too e = absurd (refused_number b (sym (number_so e)))
-answered_only Unmet (Listed j) list scratch list_too scratch_too e = absurd (let b : ⊥ = omega (arith, number_so e) in b)
-answered_only Unmet Unmet list scratch list_too scratch_too e = (refl, list_so e, scratch_so e)
-answered_only Unmet (Refused b) list scratch list_too scratch_too e = absurd (refused_not_unmet b (sym (number_so e)))
-answered_only (Refused a) (Listed j) list scratch list_too scratch_too e = absurd (refused_number a (number_so e))
-answered_only (Refused a) Unmet list scratch list_too scratch_too e = absurd (refused_not_unmet a (number_so e))
-answered_only (Refused a) (Refused b) list scratch list_too scratch_too e = (ap Refused (number_only a b (number_so e)), list_so e, scratch_so e)
+answered_only (Ok (Listed k)) (Ok (Listed j)) list scratch list_too scratch_too e = (ap (λ k. Ok (Listed k)) (filled_so e), list_so e, scratch_so e)
+answered_only (Ok (Listed k)) (Ok Unmet) list scratch list_too scratch_too e = absurd (let b : ⊥ = omega (arith, number_so e) in b)
+answered_only (Ok (Listed k)) (Err b) list scratch list_too scratch_too e = absurd (refused_number b (sym (number_so e)))
+answered_only (Ok Unmet) (Ok (Listed j)) list scratch list_too scratch_too e = absurd (let b : ⊥ = omega (arith, number_so e) in b)
+answered_only (Ok Unmet) (Ok Unmet) list scratch list_too scratch_too e = (refl, list_so e, scratch_so e)
+answered_only (Ok Unmet) (Err b) list scratch list_too scratch_too e = absurd (refused_not_unmet b (sym (number_so e)))
+answered_only (Err a) (Ok (Listed j)) list scratch list_too scratch_too e = absurd (refused_number a (number_so e))
+answered_only (Err a) (Ok Unmet) list scratch list_too scratch_too e = absurd (refused_not_unmet a (number_so e))
+answered_only (Err a) (Err b) list scratch list_too scratch_too e = (ap Err (number_only a b (number_so e)), list_so e, scratch_so e)
 
-pub list_only : (n : ℕ) (hard soft list scratch : List ℕ) (answer other : Listing) (list_after scratch_after list_too scratch_too : List ℕ)
+pub list_only : (n : ℕ) (hard soft list scratch : List ℕ) (answer other : Result Listing Refusal) (list_after scratch_after list_too scratch_too : List ℕ)
     → Lists n hard soft list scratch answer list_after scratch_after → Lists n hard soft list scratch other list_too scratch_too
     → (answer ≡ other) × (list_after ≡ list_too) × (scratch_after ≡ scratch_too)
 list_only n hard soft list scratch answer other list_after scratch_after list_too scratch_too p q =

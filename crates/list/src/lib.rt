@@ -4,70 +4,62 @@
 mod checks;
 
 ghost use Rattle.std.specs.Prelude.{◌≡◌, ◌+◌, length};
-ghost use Rattle.setups.specs.Setups.{setup, count as settings_count};
-ghost use Rattle.setups.specs.Code.Taken.{Taken};
+ghost use Rattle.question.specs.Question.{setup_of};
 ghost use Rattle.list.specs.Code.Giving.{GivesWays};
 ghost use Rattle.list.specs.Listing.{Lists};
 
 use checks::first_refusal;
-use lent::{clear, copy_out};
 use sets::{EMPTY, Set};
-use setups::{Judged, Refusal};
-use walk::{Entered, Node, enter, walk};
+use setups::{Refusal, TakenSetup};
+use walk::{Node, WaysOut, enter, walk};
 
-// What List answers: how many ways out it has listed, that the hard clauses have no model, or why it can't.
+// What List answers: how many ways out it has listed, or that the hard clauses have no model.
 #[derive(Clone, Copy)]
 pub enum Listing {
     Listed(usize),
     Unmet,
-    Refused(Refusal),
 }
 
 // The ways out of a setup that is taken. They are found in one place more than the list has: if that is filled too, there are too many.
-fn give_out(
-    count: u32,
-    hard: &[u8],
-    soft: &[u8],
-    settings: u32,
-    list: &mut [Set],
-    found: &mut [Set],
-) -> Listing
-    requires taken { Taken (setup count hard.now soft.now) }
-    requires settings_value { settings ≡ settings_count (setup count hard.now soft.now) }
-    requires found_len { length found.old ≡ length list.old + 1 }
-    ensures { GivesWays (setup count hard.now soft.now) list.old found.old result list.new found.new }
+fn give_out(taken: &TakenSetup, list: &mut [Set], found: &mut [Set]) -> Result<Listing, Refusal>
+    requires { length found.old ≡ length list.old + 1 }
+    ensures { GivesWays (setup_of taken.now) list.old found.old result list.new found.new }
 {
     let root = Node {
-        left: settings,
+        left: taken.settings,
         given: EMPTY,
         kept: EMPTY,
-        witness: EMPTY,
     };
-    let Entered::Live(live) = enter(count, hard, soft, root, &found[..0]) else {
-        return Listing::Unmet;
+    let Some(live) = enter(taken, root, &[]) else {
+        return Ok(Listing::Unmet);
     };
-    let filled = walk(count, hard, soft, live, found, 0);
+    let mut ways = WaysOut {
+        places: found,
+        filled: 0,
+    };
+    walk(taken, live, &mut ways);
+    let WaysOut { places, filled } = ways;
     if list.len() < filled {
-        return Listing::Refused(Refusal::TooMany);
+        return Err(Refusal::TooMany);
     }
-    copy_out(found, list, filled);
-    Listing::Listed(filled)
+    list[..filled].copy_from_slice(&places[..filled]);
+    Ok(Listing::Listed(filled))
 }
 
 // All ways out, rising. The walk is lent the first room + 1 places of the scratch, and afterwards the whole scratch is zero; a refusal
 // before the search writes nothing.
-pub fn list(count: u32, hard: &[u8], soft: &[u8], list: &mut [Set], scratch: &mut [Set]) -> Listing
+pub fn list(
+    count: u32,
+    hard: &[u8],
+    soft: &[u8],
+    list: &mut [Set],
+    scratch: &mut [Set],
+) -> Result<Listing, Refusal>
     ensures { Lists count hard.now soft.now list.old scratch.old result list.new scratch.new }
 {
     let room = list.len();
-    let whole = scratch.len();
-    match first_refusal(count, hard, soft, room, whole) {
-        Judged::Unfit(refusal) => Listing::Refused(refusal),
-        Judged::Taken(settings) => {
-            let places = room + 1;
-            let answer = give_out(count, hard, soft, settings, list, &mut scratch[..places]);
-            clear(&mut scratch[..whole]);
-            answer
-        }
-    }
+    let taken = first_refusal(count, hard, soft, room, scratch.len())?;
+    let answer = give_out(&taken, list, &mut scratch[..room + 1]);
+    scratch.fill(EMPTY);
+    answer
 }

@@ -1,2 +1,2 @@
--- the values that a search begins with, a literal's place among them, and the lowest free one
+-- a literal's place among the values, and values of which none is free
 pub mod SlotLaws

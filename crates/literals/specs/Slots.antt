@@ -1,12 +1,11 @@
 -- The places that the code has for values, one for each variable there can be.
-use Rattle.std.specs.Prelude.{◌≡◌, refl, List, [], ◌∷◌, ◌++◌, ℕ, suc, ◌-◌, ◌%◌, ◌<◌, get_or, replicate}
+use Rattle.std.specs.Prelude.{◌≡◌, refl, List, [], ◌∷◌, ◌++◌, ℕ, suc, ◌-◌, ◌%◌, ◌<◌, get_or, replicate, Option, Some, None}
 use Rattle.std.proofs.Common.{arith, lit<}
+use Rattle.numbers.specs.declared.Variable.{Variable}
 use Rattle.numbers.specs.Numbers.{negated}
 use Rattle.numbers.specs.Code.Places.{value_place}
 use Rattle.setups.specs.Limits.{variables_most}
 use Rattle.setups.specs.Search.{Lowest}
-use Rattle.literals.specs.declared.FirstFree.{FirstFree}
-use Rattle.literals.specs.declared.FirstFree.TheVariants.{At, NoneFree}
 
 -- where the code finds the value of a literal's variable: the definitions' `place` of every literal that there can be, and a place for
 -- any other byte too
@@ -30,10 +29,10 @@ abbrev pub AllSet : List ℕ → Type 0
 AllSet values = (i : ℕ) → get_or values i 0 < 2
 
 -- the lowest free variable; or that none is free
-abbrev pub TellsFree : List ℕ → FirstFree → Type 0
-TellsFree values (At variable) = (i : ℕ) × (variable.0 ≡ suc i) × Lowest values i
-TellsFree values NoneFree = AllSet values
+abbrev pub TellsFree : List ℕ → Option Variable → Type 0
+TellsFree values (Some variable) = (i : ℕ) × (variable.0 ≡ suc i) × Lowest values i
+TellsFree values None = AllSet values
 
 -- variable 1 is 0: the lowest that is free is variable 2
-example_free : TellsFree (0 ∷ 2 ∷ []) (At (record { 0 = 2 }))
+example_free : TellsFree (0 ∷ 2 ∷ []) (Some (record { 0 = 2 }))
 example_free = (1, refl, record { inside = lit< tt; free = lit< tt; lowest = λ j l. rw (let e : j ≡ 0 = omega arith in e) (lit< tt) })

@@ -17,40 +17,22 @@ pub type Values = [u8; VARIABLES_MOST];
 // The value of a free variable.
 pub const FREE: u8 = 2;
 
-// Which variable is the lowest that is free.
-#[derive(Clone, Copy)]
-pub enum FirstFree {
-    At(Variable),
-    NoneFree,
-}
-
 // Each of `count` variables is free; a place that no variable has holds 0.
 pub fn opening(count: u32) -> Values
     requires { count ≤ variables_most }
     ensures { result ≡ Slots.opening count }
 {
     let mut values = [0u8; VARIABLES_MOST];
-    let mut i = 0;
-    while i < count as usize {
-        values[i] = FREE;
-        i += 1;
-    }
+    values[..count as usize].fill(FREE);
     values
 }
 
-// The lowest free variable, or that none is free.
-pub fn lowest_free(values: Values) -> FirstFree
+// The lowest free variable; none where every variable has a value.
+pub fn lowest_free(values: Values) -> Option<Variable>
     ensures { Slots.TellsFree values result }
 {
-    let mut variable = Variable(1);
-    while variable.0 as usize <= VARIABLES_MOST {
-        let at = value_place(variable);
-        if FREE <= values[at] {
-            return FirstFree::At(variable);
-        }
-        variable = Variable(variable.0 + 1);
-    }
-    FirstFree::NoneFree
+    let place = values.iter().position(|value| FREE <= *value)?;
+    Some(Variable(place as u8 + 1))
 }
 
 // Where the value of the literal's variable stands.
@@ -64,26 +46,23 @@ pub fn slot(literal: u8) -> usize
 pub fn wish(literal: u8) -> u8
     ensures { result ≡ Clauses.wish literal }
 {
-    if literal < NEGATED { 1 } else { 0 }
+    u8::from(literal < NEGATED)
 }
 
 // The clause so far with one literal more, whose variable has this value.
 pub fn see(seen: Seen, literal: u8, value: u8) -> Seen
     ensures { result ≡ see_value seen literal value }
 {
-    if FREE <= value {
-        match seen {
-            Seen::AllFalse => Seen::OneFree(literal),
-            Seen::OneFree(other) => if other == literal {
-                Seen::OneFree(other)
-            } else {
-                Seen::Enough
-            },
-            Seen::Enough => Seen::Enough,
-        }
-    } else if value == wish(literal) {
-        Seen::Enough
-    } else {
-        seen
+    if value < FREE {
+        return if value == wish(literal) {
+            Seen::Enough
+        } else {
+            seen
+        };
+    }
+    match seen {
+        Seen::AllFalse => Seen::OneFree(literal),
+        Seen::OneFree(other) if other == literal => seen,
+        Seen::OneFree(_) | Seen::Enough => Seen::Enough,
     }
 }

@@ -1,7 +1,7 @@
 -- The laws behind the marks, and what Mark's promise says.
 
--- a test of every set of a list, as a loop goes through it
-mod Loops
+-- the two tests that a letter waits for
+mod Tests
 -- the marks written one by one
 mod Writing
 -- no second result, what each answer says, and programs that the promise rejects

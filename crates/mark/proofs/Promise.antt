@@ -16,21 +16,20 @@ use Rattle.setups.specs.Refusals.{finished}
 use Rattle.setups.specs.Written.{written}
 use Rattle.setups.specs.Mark.{MarkResult, mark_refusal, mark_result}
 use Rattle.setups.proofs.Refusals.{number_only, refused_number}
-use Rattle.mark.specs.declared.Marking.{Marking}
-use Rattle.mark.specs.declared.Marking.TheVariants.{Marked, Refused}
+use Rattle.std.specs.Prelude.{Result, Ok, Err}
 use Rattle.mark.specs.Marking.{answered, Marks}
 use Rattle.mark.specs.Meaning.{Fares, MarkMeans}
 
 -- one result comes from one answer and one buffer
-answered_only : (answer other : Marking) (after later : List ℕ) → answered answer after ≡ answered other later → (answer ≡ other) × (after ≡ later)
-answered_only (Marked n) (Marked m) after later e = (ap Marked (ap (λ (r : MarkResult). r.filled) e), ap (λ (r : MarkResult). r.marks) e)
-answered_only (Marked n) (Refused b) after later e = absurd (refused_number b (sym (ap (λ (r : MarkResult). r.number) e)))
-answered_only (Refused a) (Marked m) after later e = absurd (refused_number a (ap (λ (r : MarkResult). r.number) e))
-answered_only (Refused a) (Refused b) after later e =
-    (ap Refused (number_only a b (ap (λ (r : MarkResult). r.number) e)), ap (λ (r : MarkResult). r.marks) e)
+answered_only : (answer other : Result ℕ Refusal) (after later : List ℕ) → answered answer after ≡ answered other later → (answer ≡ other) × (after ≡ later)
+answered_only (Ok n) (Ok m) after later e = (ap Ok (ap (λ (r : MarkResult). r.filled) e), ap (λ (r : MarkResult). r.marks) e)
+answered_only (Ok n) (Err b) after later e = absurd (refused_number b (sym (ap (λ (r : MarkResult). r.number) e)))
+answered_only (Err a) (Ok m) after later e = absurd (refused_number a (ap (λ (r : MarkResult). r.number) e))
+answered_only (Err a) (Err b) after later e =
+    (ap Err (number_only a b (ap (λ (r : MarkResult). r.number) e)), ap (λ (r : MarkResult). r.marks) e)
 
 -- no second result
-pub mark_only : (n : ℕ) (list places : List ℕ) (answer other : Marking) (after later : List ℕ)
+pub mark_only : (n : ℕ) (list places : List ℕ) (answer other : Result ℕ Refusal) (after later : List ℕ)
     → Marks n list places answer after → Marks n list places other later → (answer ≡ other) × (after ≡ later)
 mark_only n list places answer other after later p q = answered_only answer other after later (p ∙ sym q)
 
@@ -63,12 +62,12 @@ mark_means n list places = cond_case (MarkMeans n list places refusal) (eqb refu
 -- ---- rejected, over two settings, the list 1 and a buffer of three places
 
 -- one that refuses everything
-pub mark_not_refusing : (refusal : Refusal) (after : List ℕ) → ¬ Marks 2 (1 ∷ []) (0 ∷ 0 ∷ 0 ∷ []) (Refused refusal) after
+pub mark_not_refusing : (refusal : Refusal) (after : List ℕ) → ¬ Marks 2 (1 ∷ []) (0 ∷ 0 ∷ 0 ∷ []) (Err refusal) after
 unfolding mark_result
 mark_not_refusing refusal after p = refused_number refusal (ap (λ (r : MarkResult). r.number) p)
 
 -- one that writes nothing
-pub mark_not_silent : (answer : Marking) → ¬ Marks 2 (1 ∷ []) (0 ∷ 0 ∷ 0 ∷ []) answer (0 ∷ 0 ∷ 0 ∷ [])
+pub mark_not_silent : (answer : Result ℕ Refusal) → ¬ Marks 2 (1 ∷ []) (0 ∷ 0 ∷ 0 ∷ []) answer (0 ∷ 0 ∷ 0 ∷ [])
 unfolding mark_result
-mark_not_silent (Marked n) p = omega (arith, ap (λ (r : MarkResult). get_or r.marks 0 0) p)
-mark_not_silent (Refused refusal) p = mark_not_refusing refusal (0 ∷ 0 ∷ 0 ∷ []) p
+mark_not_silent (Ok n) p = omega (arith, ap (λ (r : MarkResult). get_or r.marks 0 0) p)
+mark_not_silent (Err refusal) p = mark_not_refusing refusal (0 ∷ 0 ∷ 0 ∷ []) p

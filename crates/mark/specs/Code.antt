@@ -1,2 +1,2 @@
 -- What describes the code: the contracts of functions inside cite it, and nobody has to believe it.
-pub mod Agreeing
+pub mod Letters

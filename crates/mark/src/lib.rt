@@ -2,59 +2,49 @@
 #![tactic(auto)]
 
 ghost use Rattle.std.specs.Prelude.{◌≡◌, ◌-◌, ◌≤◌, ◌<◌, length};
-ghost use Rattle.sets.specs.Tests.{all};
 ghost use Rattle.sets.specs.Marks.{mark as mark_at, marks as marks_of};
 ghost use Rattle.setups.specs.Limits.{settings_most};
 ghost use Rattle.setups.specs.Written.{written};
-ghost use Rattle.mark.specs.Code.Agreeing.{agrees};
+ghost use Rattle.mark.specs.Code.Letters.{letter_of};
 ghost use Rattle.mark.specs.Marking.{Marks};
 
 use lent::fine;
-use numbers::Setting;
+use numbers::{Selector, Setting, setting_of};
 use sets::{SETTINGS_MOST, Set, has};
 use setups::{Refusal, SETS_MOST};
 
-// What Mark answers: it has marked so many settings, or refuses.
+// How a setting fares: no set has it; every set has it; some have it and some haven't.
 #[derive(Clone, Copy)]
-pub enum Marking {
-    Marked(u32),
-    Refused(Refusal),
+enum Letter {
+    Kept,
+    Lost,
+    Open,
 }
 
-// No set has the setting; every set has it; some have it and some haven't.
-const KEPT: u8 = b'K';
+impl From<Letter> for u8 {
+    ghost from_gives = { λ letter byte. byte ≡ letter_of letter };
 
-const LOST: u8 = b'L';
-
-const OPEN: u8 = b'O';
-
-// Every set of the list has the setting, where `held`; none of them has it, where not.
-fn all_agree(list: &[Set], setting: Setting, held: bool) -> bool
-    requires { (0 < setting.0) × (setting.0 ≤ settings_most) }
-    ensures { result ≡ all (agrees held (setting.0 - 1)) list.now }
-{
-    let mut i = 0;
-    while i < list.len() {
-        if has(list[i], setting) != held {
-            return false;
+    fn from(letter: Letter) -> u8 {
+        match letter {
+            Letter::Kept => b'K',
+            Letter::Lost => b'L',
+            Letter::Open => b'O',
         }
-        i += 1;
     }
-    true
 }
 
-// The setting's letter, "tested in this order": the rule stands here alone.
-fn letter(list: &[Set], setting: Setting) -> u8
+// How the setting fares over the list, "tested in this order": the rule stands here alone.
+fn fares(list: &[Set], setting: Setting) -> Letter
     requires { (0 < setting.0) × (setting.0 ≤ settings_most) }
-    ensures { result ≡ mark_at list.now (setting.0 - 1) }
+    ensures { letter_of result ≡ mark_at list.now (setting.0 - 1) }
 {
-    if all_agree(list, setting, false) {
-        return KEPT;
+    if !list.iter().any(|&set| has(set, setting)) {
+        return Letter::Kept;
     }
-    if all_agree(list, setting, true) {
-        return LOST;
+    if list.iter().all(|&set| has(set, setting)) {
+        return Letter::Lost;
     }
-    OPEN
+    Letter::Open
 }
 
 // Writes the letters of the first `count` settings.
@@ -62,29 +52,29 @@ fn letters(count: u32, list: &[Set], marks: &mut [u8])
     requires { (count ≤ settings_most) × (count ≤ length marks.old) }
     ensures { marks.new ≡ written (marks_of count list.now) marks.old }
 {
-    let mut i: u32 = 0;
-    while i < count {
-        marks[i as usize] = letter(list, Setting(i + 1));
-        i += 1;
+    for (i, mark) in marks[..count as usize].iter_mut().enumerate() {
+        *mark = fares(list, setting_of(Selector(i as u32))).into();
     }
 }
 
-// The letter of each of the first `count` settings over the list.
-pub fn mark(count: u32, list: &[Set], marks: &mut [u8]) -> Marking
+// The letter of each of the first `count` settings over the list; how many these are.
+#[tactic(auto, unfolding(setups::specs::Mark::mark_result))]
+pub fn mark(count: u32, list: &[Set], marks: &mut [u8]) -> Result<u32, Refusal>
     ensures { Marks count list.now marks.old result marks.new }
 {
     if SETTINGS_MOST < count {
-        return Marking::Refused(Refusal::Softs);
+        return Err(Refusal::Softs);
     }
     if SETS_MOST < list.len() {
-        return Marking::Refused(Refusal::Size);
+        return Err(Refusal::Size);
     }
-    if marks.len() < count as usize {
-        return Marking::Refused(Refusal::Room);
+    let room = marks.len();
+    if room < count as usize {
+        return Err(Refusal::Room);
     }
     if !fine(count, list) {
-        return Marking::Refused(Refusal::List);
+        return Err(Refusal::List);
     }
     letters(count, list, marks);
-    Marking::Marked(count)
+    Ok(count)
 }

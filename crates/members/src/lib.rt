@@ -2,13 +2,13 @@
 // unhit, and which settings they want (document 01: "the sets that share a setting with each member").
 #![tactic(auto)]
 
-ghost use Rattle.std.specs.Prelude.{◌≡◌, ◌⊎◌, ◌≢◌, ◌↔◌, ℕ};
+ghost use Rattle.std.specs.Prelude.{◌≡◌, ◌⊎◌, ◌≢◌, ◌↔◌, ℕ, Some};
 ghost use Rattle.sets.specs.Width.{settings_most};
 ghost use Rattle.sets.specs.Sets.{In, Share, only};
 ghost use Rattle.members.specs.Members.{Alone, Own, Finds};
 
 use numbers::Setting;
-use sets::{EMPTY, Set, at_most_one, has, meets, size};
+use sets::{EMPTY, Set, at_most_one, meets, size};
 
 // What the taken settings leave unhit: nothing; a member that no setting left hits either; or a member that wants one of these
 // settings left.
@@ -24,10 +24,7 @@ fn alone(member: Set, taken: Set) -> Set
     ensures { (i : ℕ) → In i result ↔ Alone member taken i }
 {
     let hit = member & taken;
-    if at_most_one(hit) {
-        return hit;
-    }
-    EMPTY
+    if at_most_one(hit) { hit } else { EMPTY }
 }
 
 // The taken settings that have a member of their own.
@@ -35,48 +32,40 @@ pub fn own(members: &[Set], taken: Set) -> Set
     ensures { (i : ℕ) → In i result ↔ Own members.now taken i }
 {
     let mut found = EMPTY;
-    let mut i = 0;
-    while i < members.len() {
-        found = found | alone(members[i], taken);
-        i += 1;
+    for &member in members {
+        found |= alone(member, taken);
     }
     found
 }
 
 // Of what two unhit members want the fewer settings; what the first wants where there is no other yet.
-fn fewer(wanted: Set, other: Set) -> Set
-    ensures { (result ≡ wanted) ⊎ ((result ≡ other) × (other ≢ 0)) }
+fn fewer(wanted: Set, other: Option<Set>) -> Set
+    ensures { (result ≡ wanted) ⊎ (other ≡ Some result) }
 {
-    if other == EMPTY {
-        return wanted;
+    match other {
+        Some(other) if size(other) <= size(wanted) => other,
+        _ => wanted,
     }
-    if size(wanted) < size(other) {
-        return wanted;
-    }
-    other
 }
 
 // What the taken settings leave unhit; of all unhit members it is the one with the fewest settings left.
 pub fn find_unhit(members: &[Set], taken: Set, left: Set) -> Unhit
     ensures { Finds members.now taken left result }
 {
-    let mut fewest = EMPTY;
-    let mut i = 0;
-    while i < members.len() {
-        let member = members[i];
+    let mut fewest = None;
+    for &member in members {
         if !meets(taken, member) {
             let wanted = member & left;
             if wanted == EMPTY {
                 return Unhit::Hopeless;
             }
-            fewest = fewer(wanted, fewest);
+            fewest = Some(fewer(wanted, fewest));
         }
-        i += 1;
     }
-    if fewest == EMPTY {
-        return Unhit::Nothing;
+    match fewest {
+        None => Unhit::Nothing,
+        Some(wanted) => Unhit::Wants(wanted),
     }
-    Unhit::Wants(fewest)
 }
 
 // The next setting, of those left that are wanted. The contract says no more, so that the choice can be tuned without a proof.
@@ -84,9 +73,5 @@ pub fn choose(left: Set) -> Setting
     requires { left ≢ 0 }
     ensures { Share left (only settings_most result.0) }
 {
-    let mut number: u32 = 1;
-    while !has(left, Setting(number)) {
-        number += 1;
-    }
-    Setting(number)
+    Setting(left.trailing_zeros() + 1)
 }

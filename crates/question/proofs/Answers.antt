@@ -2,10 +2,11 @@
 use mathlib.Core.Path.{◌≡◌, refl, sym, ◌∙◌, subst}
 use mathlib.Core.Logic.Iff
 use mathlib.Core.Logic.{◌↔◌}
-use mathlib.Core.Bool.{true, false, true≢false}
+use Rattle.std.specs.Prelude.{Some, None}
 use mathlib.Core.List.{List}
 use Prim.Native.Nat.{ℕ, ◌-◌, ◌^◌, ◌<◌, min}
 use native.Mathlib.Omega.{arith}
+use denote.Bor.{Bor}
 use lib.Bits.{bit_and}
 use lib.Dec.{T}
 use lib.ListN.{length, get_or, take, length-take}
@@ -17,26 +18,32 @@ use Rattle.sets.proofs.Tests.{has_in, in_has}
 use Rattle.setups.specs.Limits.{variables_most, settings_most}
 use Rattle.setups.specs.Clauses.{Assigns}
 use Rattle.setups.specs.Setups.{Setup, count, SettingTrue}
-use Rattle.setups.specs.Code.Taken.{Taken}
+use Rattle.setups.specs.declared.taken.TakenSetup.{TakenSetup}
 use Rattle.literals.specs.Slots.{opening}
 use Rattle.setups.proofs.Models.{assigns_full}
 use Rattle.forcing.specs.Holding.{is_true, holds, AllBroken}
 use Rattle.forcing.specs.Values.{AgreesWith, Completes}
-use Rattle.forcing.specs.Rules.{KeepsAnswers, unmoved}
+use Rattle.forcing.specs.Rules.{Keeps, KeepsAnswers, unmoved}
 use Rattle.forcing.specs.Standings.{Stands}
 use Rattle.forcing.specs.declared.forcing.Progress.{Progress}
 use Rattle.forcing.specs.declared.standing.Standing.{Standing}
 use Rattle.forcing.proofs.ValueLaws.{agrees_opening}
-use Rattle.question.specs.Question.{Meets, Breaks, Says}
+use Rattle.question.specs.Question.{setup_of, Meets, Breaks, Says}
 use Rattle.question.specs.Seeking.{Fulfils, Seeks}
-use Rattle.question.specs.declared.Reply.TheVariants.{Yes, No}
-use Rattle.question.specs.declared.seeking.Sought.{Sought}
+use Rattle.question.specs.declared.asked.Asked.{Asked}
 use Rattle.question.proofs.Bridge.{rules_true, holds_true}
 
-module _ (g : Setup) (taken : Taken g) (all : ℕ) (every : all ≡ 2 ^ min (count g) settings_most - 1) where
+module _ (s : TakenSetup) (sets : Bor (List ℕ)) (all : ℕ) (every : all ≡ 2 ^ min (count (setup_of s)) settings_most - 1) where
+  abbrev g : Setup
+  g = setup_of s
+
+  -- what is asked, apart from the kept settings
+  abbrev q : Asked
+  q = record { hard = s.hard; soft = s.soft; found = sets }
+
   all_in : (i : ℕ) → In i all ↔ (i < count g)
   all_in i =
-      let e : min (count g) settings_most ≡ count g = omega (arith, taken.settings) in
+      let e : min (count g) settings_most ≡ count g = omega (arith, s.taken.settings) in
       rw (every, e) (full_in (count g) i)
 
   -- of a set, the settings that there are
@@ -52,17 +59,17 @@ module _ (g : Setup) (taken : Taken g) (all : ℕ) (every : all ≡ 2 ^ min (cou
   pub given_below : (S : ℕ) → bit_and S all < 2 ^ count g
   given_below S = below (bit_and S all) (λ i h. ((there S i).0 h).1)
 
-  module _ (kept given : ℕ) (found : List ℕ) where
+  module _ (kept given : ℕ) where
     -- ---- no model
 
-    module _ (m : List ℕ) (meets : Meets g kept found m) where
+    module _ (m : List ℕ) (meets : Meets g kept sets.now m) where
       -- what holds under m is what m makes true
       truly : (i : ℕ) → T (holds (is_true m) g.soft i) ↔ ((i < count g) × SettingTrue g m i)
-      truly = holds_true g taken m m (λ i l. refl)
+      truly = holds_true g s.taken m m (λ i l. refl)
 
-      asked : Fulfils (bit_and kept all) g.hard g.soft found (is_true m)
+      asked : Fulfils q (bit_and kept all) (is_true m)
       asked = record {
-        rules = subst T (sym (rules_true g taken m m (λ i l. refl))) meets.models.hard;
+        rules = subst T (sym (rules_true g s.taken m m (λ i l. refl))) meets.models.hard;
         fit = record {
           keeps = λ i h. let k = (there kept i).0 h in (truly i).1 (k.1, meets.models.kept i k.1 k.0);
           each = λ W h. let one = meets.each W h in (one.0, one.2, (truly one.0).1 (one.1, one.3));
@@ -75,24 +82,21 @@ module _ (g : Setup) (taken : Taken g) (all : ℕ) (every : all ≡ 2 ^ min (cou
       broken : Breaks g given m → AllBroken (bit_and given all) (is_true m) g.soft
       broken breaks i h t = let k = (there given i).0 h in breaks i k.1 k.0 ((truly i).0 t).1
 
-    module _ (start : List ℕ) (is : start ≡ opening g.variables) (forced : Progress)
-        (step : KeepsAnswers (λ m. AllBroken (bit_and given all) (is_true m) g.soft) (unmoved start) forced) where
-      reaches : (m : List ℕ) (meets : Meets g kept found m) → Breaks g given m → (forced.fails ≡ false) × AgreesWith forced.values m
-      reaches m meets breaks = step.stays m (assigns_full meets.models.assigns) (broken m meets breaks) (agrees m meets start is)
-
+    module _ (start : List ℕ) (is : start ≡ opening g.variables) where
       -- the given-up settings cannot be broken
-      pub no_start : forced.fails ≡ true → Says g kept given found No
-      no_start fails m meets breaks = true≢false (sym fails ∙ (reaches m meets breaks).0)
+      pub no_start : KeepsAnswers (λ m. AllBroken (bit_and given all) (is_true m) g.soft) (unmoved start) None → Says g kept given sets.now None
+      no_start none m meets breaks = none m (assigns_full meets.models.assigns) (broken m meets breaks) (agrees m meets start is)
 
-      -- the search fails
-      pub no_model_lem : (sought : Sought) → Seeks (λ m. Fulfils (bit_and kept all) g.hard g.soft found (is_true m)) forced.values sought
-          → sought.fails ≡ true → Says g kept given found No
-      no_model_lem sought told fails m meets breaks =
-          told.fails fails m (assigns_full meets.models.assigns) (reaches m meets breaks).1 (asked m meets)
+      -- they can, and the search finds nothing
+      pub no_model_lem : {forced : Progress} → Keeps (λ m. AllBroken (bit_and given all) (is_true m) g.soft) (unmoved start) forced
+          → Seeks (λ m. Fulfils q (bit_and kept all) (is_true m)) forced.values None → Says g kept given sets.now None
+      no_model_lem step none m meets breaks =
+          let full = assigns_full meets.models.assigns in
+          none m full (asked m meets) (step.stays m full (broken m meets breaks) (agrees m meets start is))
 
     -- ---- a model
 
-    module _ (sought : Sought) (w : List ℕ) (completes : Completes sought.values w) where
+    module _ (reached w : List ℕ) (completes : Completes reached w) where
       -- the values of the variables are a model's
       same : (i : ℕ) → i < g.variables → get_or (take g.variables w) i 0 ≡ get_or w i 0
       same i l = get_or-take g.variables w i 0 l
@@ -100,24 +104,23 @@ module _ (g : Setup) (taken : Taken g) (all : ℕ) (every : all ≡ 2 ^ min (cou
       assigns : Assigns g.variables (take g.variables w)
       assigns = record {
         size =
-            let e : min g.variables (length w) ≡ g.variables = omega (arith, completes.size, taken.variables) in
+            let e : min g.variables (length w) ≡ g.variables = omega (arith, completes.size, s.taken.variables) in
             length-take g.variables w ∙ e;
         bits = λ i l. omega (arith, same i l, completes.full i);
       }
 
       truth : (i : ℕ) → T (holds (is_true w) g.soft i) ↔ ((i < count g) × SettingTrue g (take g.variables w) i)
-      truth = holds_true g taken (take g.variables w) w same
+      truth = holds_true g s.taken (take g.variables w) w same
 
-      module _ (start : List ℕ) (told : Seeks (λ m. Fulfils (bit_and kept all) g.hard g.soft found (is_true m)) start sought)
-          (finds : sought.fails ≡ false) where
-        answer : Fulfils (bit_and kept all) g.hard g.soft found (is_true w)
-        answer = told.finds finds w completes.agrees
+      module _ (told : (m : List ℕ) → AgreesWith reached m → Fulfils q (bit_and kept all) (is_true m)) where
+        answer : Fulfils q (bit_and kept all) (is_true w)
+        answer = told w completes.agrees
 
-        meets : Meets g kept found (take g.variables w)
+        meets : Meets g kept sets.now (take g.variables w)
         meets = record {
           models = record {
             assigns = assigns;
-            hard = subst T (rules_true g taken (take g.variables w) w same) answer.rules;
+            hard = subst T (rules_true g s.taken (take g.variables w) w same) answer.rules;
             kept = λ i l h. ((truth i).0 (answer.fit.keeps i ((there kept i).1 (h, l)))).1;
           };
           each = λ W h.
@@ -126,7 +129,7 @@ module _ (g : Setup) (taken : Taken g) (all : ℕ) (every : all ≡ 2 ^ min (cou
               (one.0, k.0, one.1, k.1);
         }
 
-        pub yes_model : (standing : Standing) → Stands w g.soft standing → Says g kept given found (Yes standing.sure)
+        pub yes_model : (standing : Standing) → Stands w g.soft standing → Says g kept given sets.now (Some standing.sure)
         yes_model standing stands = (
           take g.variables w,
           meets,

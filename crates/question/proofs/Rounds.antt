@@ -1,139 +1,118 @@
 -- Rounds of the rules: one round, and one after another.
-use mathlib.Core.Path.{◌≡◌, refl, sym, ◌∙◌, subst}
-use mathlib.Core.Logic.{◌≢◌}
-use mathlib.Core.Bool.{Bool, true, false, cond, true≢false, false≢true}
+use mathlib.Core.Path.{◌≡◌, refl, sym, subst}
+use mathlib.Core.Logic.{◌≢◌, ◌⊎◌, ⊎_elim}
+use Rattle.std.specs.Prelude.{Option, Some, None}
+use mathlib.Core.Bool.{Bool, true, false, cond}
 use mathlib.Core.List.{List}
-use Prim.Native.Nat.{ℕ, ◌+◌, ◌-◌, ◌*◌, ◌^◌, ◌≤◌, ◌<◌, min}
+use Prim.Native.Nat.{ℕ, ◌+◌, ◌-◌, ◌*◌, ◌^◌, ◌<◌, min}
 use native.Mathlib.Omega.{arith}
 use lib.Dec.{T}
 use Rattle.sets.specs.Sets.{In, Within}
-use Rattle.sets.proofs.Digits.{in_below, within_le, within_trans, within_self}
+use Rattle.sets.proofs.Digits.{in_below, within_le, within_trans}
 use Rattle.sets.proofs.Tests.{has_in}
 use Rattle.setups.specs.Limits.{settings_most}
 use Rattle.setups.specs.Clauses.{clauses}
 use Rattle.setups.specs.Searching.{free_count}
-use Rattle.found.specs.FoundSets.{Each, Narrows}
-use Rattle.found.specs.declared.Narrowed.{Narrowed}
+use Rattle.found.specs.FoundSets.{Each, Widens, Narrows}
 use Rattle.literals.specs.Slots.{AllSet}
 use Rattle.forcing.specs.Holding.{is_true, may_be, holds}
 use Rattle.forcing.specs.Selectors.{Owing, OwingBoth}
 use Rattle.forcing.specs.Values.{AgreesWith}
-use Rattle.forcing.specs.Rules.{KeepsAnswers, unmoved}
+use Rattle.forcing.specs.Rules.{unmoved, Keeps, KeepsAnswers}
 use Rattle.forcing.specs.Standings.{Stands}
 use Rattle.forcing.specs.declared.forcing.Progress.{Progress}
-use Rattle.forcing.specs.declared.selectors.Owed.TheVariants.{OfSettings}
 use Rattle.forcing.specs.declared.standing.Standing.{Standing}
 use Rattle.forcing.proofs.Verdicts.{verdict_clause, verdict_holds}
-use Rattle.question.specs.Seeking.{Fulfils, failing, Advances}
+use Rattle.question.specs.Seeking.{Fulfils, NoneAgrees, AdvancesTo, Advances}
+use Rattle.question.specs.declared.asked.Asked.{Asked}
 use Rattle.question.specs.declared.seeking.Round.{Round}
 use Rattle.question.proofs.TestLaws.{holds_more, each_passes, true_may}
 
--- ---- what is asked, as the passes take it
+-- ---- what is fulfils, as the passes take it
 
 -- each kept setting's clause is owed, and each hard clause
-pub fulfils_both : {kept : ℕ} {hard soft found : List ℕ} {test : ℕ → Bool} → kept < 2 ^ settings_most → Fulfils kept hard soft found test
-    → OwingBoth kept test hard soft
-fulfils_both {kept} {hard} {soft} {test = test} small asked = record { keeps = keeps; rules = λ i l h. each_passes test (clauses hard) asked.rules i l }
+fulfils_both : {q : Asked} {kept : ℕ} {test : ℕ → Bool} → kept < 2 ^ settings_most → Fulfils q kept test
+    → OwingBoth kept test q.hard.now q.soft.now
+fulfils_both {q} {kept} {test} small fulfils = record { keeps = keeps; rules = λ i l h. each_passes test (clauses q.hard.now) fulfils.rules i l }
   where
-    keeps : Owing (OfSettings kept) test soft
+    keeps : Owing (λ n. In n kept) test q.soft.now
     keeps i l h =
         let e : min i settings_most ≡ i = let k = in_below settings_most small h in omega arith in
-        let held = asked.fit.keeps i (subst (λ (x : ℕ). In x kept) e h) in
-        subst T (verdict_clause test (clauses soft) i) ((verdict_holds test soft i).0 held).1
+        let held = fulfils.fit.keeps i (subst (λ (x : ℕ). In x kept) e h) in
+        subst T (verdict_clause test (clauses q.soft.now) i) ((verdict_holds test q.soft.now i).0 held).1
 
 -- ---- one round
 
-module _ {kept : ℕ} {hard soft found values : List ℕ} where
-  -- it fails, and there is no answer
-  advances_failing : (w : List ℕ) → free_count w ≤ free_count values
-      → ((m : List ℕ) → AllSet m → Fulfils kept hard soft found (is_true m) → ¬ AgreesWith values m)
-      → Advances kept hard soft found values (failing w kept)
-  advances_failing w less none = record {
-    less = less;
-    grows = within_self kept;
-    moves = λ e. absurd (false≢true e);
-    stands = λ e. absurd (true≢false e);
-    stays = λ m d asked agrees. absurd (none m d asked agrees);
-  }
+-- what holds in the end is possible
+possible : {values soft : List ℕ} {standing : Standing} → Stands values soft standing → (m : List ℕ) → AgreesWith values m → (i : ℕ)
+    → T (holds (is_true m) soft i) → In i standing.possible
+possible {values} {soft} {standing} stands m agrees i t =
+    has_in standing.possible i (subst T (sym (stands.possible i)) (holds_more (is_true m) (may_be values) (true_may values m agrees) soft i t))
 
-  -- a pass fails
-  pub advances_stuck : {forced : Progress} → KeepsAnswers (λ m. Fulfils kept hard soft found (is_true m)) (unmoved values) forced → forced.fails ≡ true
-      → Advances kept hard soft found values (failing forced.values kept)
-  advances_stuck {forced} step fails =
-      advances_failing forced.values step.less (λ m d asked agrees. true≢false (sym fails ∙ (step.stays m d asked agrees).0))
+module _ (q : Asked) {kept : ℕ} (values : List ℕ) (small : kept < 2 ^ settings_most) where
+  -- a clause can't be met
+  pub advances_stuck : KeepsAnswers (λ m. OwingBoth kept (is_true m) q.hard.now q.soft.now) (unmoved values) None → Advances q kept values None
+  advances_stuck none m d fulfils = none m d (fulfils_both small fulfils)
 
-  module _ {forced : Progress} (step : KeepsAnswers (λ m. Fulfils kept hard soft found (is_true m)) (unmoved values) forced)
-      {standing : Standing} (stands : Stands forced.values soft standing) where
-    -- a round that does not fail
-    abbrev ends : Bool → ℕ → Round
-    ends moved wider = record { fails = false; moved = moved; kept = wider; standing = standing; values = forced.values }
+  module _ {forced : Progress} (step : Keeps (λ m. OwingBoth kept (is_true m) q.hard.now q.soft.now) (unmoved values) forced)
+      {standing : Standing} (stands : Stands forced.values q.soft.now standing) where
+    still : (m : List ℕ) → AllSet m → Fulfils q kept (is_true m) → AgreesWith values m → AgreesWith forced.values m
+    still m d fulfils = step.stays m d (fulfils_both small fulfils)
 
-    -- what holds in the end is possible
-    possible : (m : List ℕ) → AgreesWith forced.values m → (i : ℕ) → T (holds (is_true m) soft i) → In i standing.possible
-    possible m agrees i t =
-        has_in standing.possible i
-        (subst T (sym (stands.possible i)) (holds_more (is_true m) (may_be forced.values) (true_may forced.values m agrees) soft i t))
+    -- some found set has no setting left
+    pub advances_dead : Narrows kept standing.possible q.found.now None → Advances q kept values None
+    advances_dead none m d fulfils agrees = none (holds (is_true m) q.soft.now) (possible stands m (still m d fulfils agrees)) fulfils.fit
 
-    module _ {narrowed : Narrowed} (narrows : Narrows kept standing.possible found narrowed) where
-      narrowed_for : (m : List ℕ) → AllSet m → Fulfils kept hard soft found (is_true m) → AgreesWith values m
-          → (narrowed.fails ≡ false) × Each narrowed.kept (holds (is_true m) soft)
-      narrowed_for m d asked agrees =
-          narrows.stays (holds (is_true m) soft) (possible m (step.stays m d asked agrees).1) asked.fit
-
-      -- some found set has no setting left
-      pub advances_dead : narrowed.fails ≡ true → Advances kept hard soft found values (failing forced.values kept)
-      advances_dead fails =
-          advances_failing forced.values step.less (λ m d asked agrees. true≢false (sym fails ∙ (narrowed_for m d asked agrees).0))
-
-      -- no more is kept
-      pub advances_same : narrowed.kept ≡ kept → Advances kept hard soft found values (ends forced.moved kept)
-      advances_same e = record {
-        less = step.less;
-        grows = within_self kept;
-        moves = λ t. omega (arith, step.moves refl t);
-        stands = λ _. stands;
-        stays = λ m d asked agrees. (refl, (step.stays m d asked agrees).1, asked.fit.keeps);
-      }
-
-      -- more is kept
-      pub advances_wider : narrowed.kept ≢ kept → Advances kept hard soft found values (ends true narrowed.kept)
-      advances_wider n = record {
-        less = step.less;
-        grows = narrows.grows;
-        moves = λ t. omega (arith, step.less, within_le kept narrowed.kept narrows.grows);
-        stands = λ _. stands;
-        stays = λ m d asked agrees. (refl, (step.stays m d asked agrees).1, (narrowed_for m d asked agrees).1);
-      }
+    -- each has one, and it has moved where a value was forced or more is kept
+    pub advances_round : {wider : ℕ} → Widens kept standing.possible q.found.now wider → (moved : Bool)
+        → (moved ≡ true → (forced.moved ≡ true) ⊎ (wider ≢ kept))
+        → Advances q kept values (Some (record { moved = moved; kept = wider; standing = standing; values = forced.values }))
+    advances_round {wider} widens moved why = record {
+      less = step.less;
+      grows = widens.grows;
+      moves = λ t.
+          let more = within_le kept wider widens.grows in
+          ⊎_elim (λ e. omega (arith, step.moves refl e, more)) (λ n. omega (arith, step.less, more)) (why t);
+      stands = stands;
+      stays = λ m d fulfils agrees.
+          let was = still m d fulfils agrees in (was, widens.stays (holds (is_true m) q.soft.now) (possible stands m was) fulfils.fit);
+    }
 
 -- ---- one round after another
 
--- what is asked, with more kept that holds
-pub fulfils_wider : {kept wider : ℕ} {hard soft found : List ℕ} {test : ℕ → Bool} → Fulfils kept hard soft found test
-    → Each wider (holds test soft) → Fulfils wider hard soft found test
-fulfils_wider asked each = record { rules = asked.rules; fit = record { keeps = each; each = asked.fit.each } }
+-- what is fulfils, with more kept that holds
+pub fulfils_wider : {q : Asked} {kept wider : ℕ} {test : ℕ → Bool} → Fulfils q kept test
+    → Each wider (holds test q.soft.now) → Fulfils q wider test
+fulfils_wider fulfils each = record { rules = fulfils.rules; fit = record { keeps = each; each = fulfils.fit.each } }
 
 -- and with less kept
-pub fulfils_narrower : {kept wider : ℕ} {hard soft found : List ℕ} {test : ℕ → Bool} → Within kept wider → Fulfils wider hard soft found test
-    → Fulfils kept hard soft found test
-fulfils_narrower w asked = fulfils_wider asked (λ i h. asked.fit.keeps i (w i h))
+pub fulfils_narrower : {q : Asked} {kept wider : ℕ} {test : ℕ → Bool} → Within kept wider → Fulfils q wider test
+    → Fulfils q kept test
+fulfils_narrower w fulfils = fulfils_wider fulfils (λ i h. fulfils.fit.keeps i (w i h))
 
-pub advances_on : {kept : ℕ} {hard soft found values : List ℕ} {r s : Round} → Advances kept hard soft found values r
-    → Advances r.kept hard soft found r.values s → Advances kept hard soft found values s
-advances_on {kept} {r = r} {s = s} first second = record {
+-- what agrees with the values and is fulfils stays so, with the wider kept
+none_on : {q : Asked} {kept : ℕ} {values : List ℕ} {r : Round} → AdvancesTo q kept values r
+    → NoneAgrees (λ m. Fulfils q r.kept (is_true m)) r.values → NoneAgrees (λ m. Fulfils q kept (is_true m)) values
+none_on first none m d fulfils agrees = let was = first.stays m d fulfils agrees in none m d (fulfils_wider fulfils was.1) was.0
+
+pub advances_on : {q : Asked} {kept : ℕ} {values : List ℕ} {r : Round} → AdvancesTo q kept values r → (s : Option Round)
+    → Advances q r.kept r.values s → Advances q kept values s
+advances_on {kept = kept} {r = r} first (Some s) second = record {
   less = omega (arith, first.less, second.less);
   grows = within_trans kept r.kept s.kept first.grows second.grows;
   moves = λ t. omega (arith, first.less, second.moves t, within_le kept r.kept first.grows);
   stands = second.stands;
-  stays = λ m d asked agrees. let was = first.stays m d asked agrees in second.stays m d (fulfils_wider asked was.2) was.1;
+  stays = λ m d fulfils agrees. let was = first.stays m d fulfils agrees in second.stays m d (fulfils_wider fulfils was.1) was.0;
 }
+advances_on first None none = none_on first none
 
 -- how much is left to do: values to set and settings to keep, and a last round
 abbrev pub left : Round → ℕ
 left r = 2 * (free_count r.values + (2 ^ settings_most - r.kept)) + cond r.moved 1 0
 
-pub left_less : (hard soft found : List ℕ) (r s : Round) → r.moved ≡ true → s.kept < 2 ^ settings_most
-    → Advances r.kept hard soft found r.values s → left s < left r
-left_less hard soft found r s t small next = rw t (go s.moved refl)
+pub left_less : (q : Asked) (r s : Round) → r.moved ≡ true → s.kept < 2 ^ settings_most
+    → AdvancesTo q r.kept r.values s → left s < left r
+left_less q r s t small next = rw t (go s.moved refl)
   where
     sum : Round → ℕ
     sum x = free_count x.values + (2 ^ settings_most - x.kept)

@@ -1,7 +1,8 @@
--- The search: what it tells where a round fails, where what is asked is met, where no variable is free, and after a split.
-use mathlib.Core.Path.{◌≡◌, sym, ◌∙◌, subst}
+-- The search: what it tells where a round fails, where what is fulfils is met, where no variable is free, and after a split.
+use mathlib.Core.Path.{◌≡◌, sym, subst}
 use mathlib.Core.Logic.{◌⊎◌, inl, inr, ⊎_elim, ◌↔◌, by_cases}
-use mathlib.Core.Bool.{Bool, true, false, true≢false, false≢true}
+use mathlib.Core.Bool.{Bool}
+use Rattle.std.specs.Prelude.{Option, Some, None}
 use mathlib.Core.List.{List}
 use Prim.Native.Nat.{ℕ, ◌-◌, ◌≤◌, ◌<◌}
 use native.Mathlib.Decide.{ℕ_discrete}
@@ -16,11 +17,10 @@ use Rattle.literals.specs.Slots.{slot, AllSet}
 use Rattle.forcing.specs.Holding.{is_true}
 use Rattle.forcing.specs.Values.{AgreesWith}
 use Rattle.forcing.specs.Standings.{Stands}
-use Rattle.forcing.specs.declared.standing.Standing.{Standing}
 use Rattle.forcing.proofs.ValueLaws.{free_set_lt, agrees_set}
-use Rattle.question.specs.Seeking.{Fulfils, Advances, Done, Seeks}
+use Rattle.question.specs.Seeking.{Fulfils, AdvancesTo, Done, Seeks}
+use Rattle.question.specs.declared.asked.Asked.{Asked}
 use Rattle.question.specs.declared.seeking.Round.{Round}
-use Rattle.question.specs.declared.seeking.Sought.{Sought}
 use Rattle.question.proofs.TestLaws.{all_more, holds_more, true_stays, true_was}
 use Rattle.question.proofs.Rounds.{fulfils_wider, fulfils_narrower}
 
@@ -31,18 +31,17 @@ fit_more weaker fit = record {
   each = λ W h. let one = fit.each W h in (one.0, one.1, weaker one.0 one.2);
 }
 
--- what is asked, over a test of literals that passes more
-fulfils_more : {kept : ℕ} {hard soft found : List ℕ} {test more : ℕ → Bool} → ((b : ℕ) → T (test b) → T (more b))
-    → Fulfils kept hard soft found test → Fulfils kept hard soft found more
-fulfils_more {hard = hard} {soft = soft} {test = test} {more = more} weaker asked =
-    record { rules = all_more test more weaker (clauses hard) asked.rules; fit = fit_more (holds_more test more weaker soft) asked.fit }
+-- what is fulfils, over a test of literals that passes more
+fulfils_more : {q : Asked} {kept : ℕ} {test more : ℕ → Bool} → ((b : ℕ) → T (test b) → T (more b))
+    → Fulfils q kept test → Fulfils q kept more
+fulfils_more {q} {test = test} {more = more} weaker fulfils =
+    record { rules = all_more test more weaker (clauses q.hard.now) fulfils.rules; fit = fit_more (holds_more test more weaker q.soft.now) fulfils.fit }
 
 -- it is met so far where what is true so far fulfils it
-done_so : {kept : ℕ} {values hard soft found : List ℕ} {standing : Standing} → Stands values soft standing
-    → Done kept standing.sure values hard found ↔ Fulfils kept hard soft found (is_true values)
+done_so : {q : Asked} {s : Round} → Stands s.values q.soft.now s.standing → Done q s ↔ Fulfils q s.kept (is_true s.values)
 done_so stands = (
   (λ done. record { rules = done.rules; fit = fit_more (λ i t. subst T (stands.sure i) t) done.fit }),
-  λ asked. record { rules = asked.rules; fit = fit_more (λ i t. subst T (sym (stands.sure i)) t) asked.fit },
+  λ fulfils. record { rules = fulfils.rules; fit = fit_more (λ i t. subst T (sym (stands.sure i)) t) fulfils.fit },
 )
 
 -- an assignment gives a literal's variable the value that it wishes, or the other
@@ -50,64 +49,38 @@ value_cases : (m : List ℕ) (b : ℕ) → AllSet m → (get_or m (slot b) 0 ≡
 value_cases m b d =
     by_cases (ℕ_discrete (get_or m (slot b) 0) (wish b)) inl (λ n. inr (omega (arith, d (slot b), wish_small b)))
 
-module _ {kept : ℕ} {hard soft found values : List ℕ} {s : Round} (advances : Advances kept hard soft found values s) where
-  -- the last round fails
-  pub seeks_stuck : s.fails ≡ true → (w : List ℕ)
-      → Seeks (λ m. Fulfils kept hard soft found (is_true m)) values (record { fails = true; values = w })
-  seeks_stuck fails w = record {
-    finds = λ e. absurd (true≢false e);
-    fails = λ _ m d agrees asked. true≢false (sym fails ∙ (advances.stays m d asked agrees).0);
-  }
+module _ {q : Asked} {kept : ℕ} {values : List ℕ} {s : Round} (advances : AdvancesTo q kept values s) where
+  so_far : Done q s ↔ Fulfils q s.kept (is_true s.values)
+  so_far = done_so advances.stands
 
-  module _ (fine : s.fails ≡ false) where
-    so_far : Done s.kept s.standing.sure s.values hard found ↔ Fulfils s.kept hard soft found (is_true s.values)
-    so_far = done_so (advances.stands fine)
+  -- what is fulfils is met
+  pub seeks_done : Done q s → Seeks (λ m. Fulfils q kept (is_true m)) values (Some s.values)
+  seeks_done done m agrees = fulfils_narrower advances.grows (fulfils_more (true_stays s.values m agrees) (so_far.0 done))
 
-    -- what is asked is met
-    pub seeks_done : Done s.kept s.standing.sure s.values hard found
-        → Seeks (λ m. Fulfils kept hard soft found (is_true m)) values (record { fails = false; values = s.values })
-    seeks_done done = record {
-      finds = λ _ m agrees.
-          fulfils_narrower advances.grows (fulfils_more (true_stays s.values m agrees) (so_far.0 done));
-      fails = λ e. absurd (false≢true e);
-    }
-
-    -- no variable is free, and what is asked is not met
-    pub seeks_full : AllSet s.values → ¬ Done s.kept s.standing.sure s.values hard found → (w : List ℕ)
-        → Seeks (λ m. Fulfils kept hard soft found (is_true m)) values (record { fails = true; values = w })
-    seeks_full full not_done w = record {
-      finds = λ e. absurd (true≢false e);
-      fails = λ _ m d agrees asked.
-          let r = advances.stays m d asked agrees in
-          not_done (so_far.1 (fulfils_more (λ b. true_was s.values m r.1 b (full (slot b))) (fulfils_wider asked r.2)));
-    }
+  -- no variable is free, and what is fulfils is not met
+  pub seeks_full : AllSet s.values → ¬ Done q s → Seeks (λ m. Fulfils q kept (is_true m)) values None
+  seeks_full full not_done m d fulfils agrees =
+      let r = advances.stays m d fulfils agrees in
+      not_done (so_far.1 (fulfils_more (λ b. true_was s.values m r.0 b (full (slot b))) (fulfils_wider fulfils r.1)))
 
   -- ---- a split on the literal b
 
   module _ (b : ℕ) where
-    -- what either side finds
-    found_there : {r : Sought} {start : List ℕ} → Seeks (λ m. Fulfils s.kept hard soft found (is_true m)) start r → r.fails ≡ false
-        → (m : List ℕ) → AgreesWith r.values m → Fulfils kept hard soft found (is_true m)
-    found_there told fine m agrees = fulfils_narrower advances.grows (told.finds fine m agrees)
+    -- the first side finds one
+    pub seeks_first : (r : List ℕ) → ((m : List ℕ) → AgreesWith r m → Fulfils q s.kept (is_true m))
+        → Seeks (λ m. Fulfils q kept (is_true m)) values (Some r)
+    seeks_first r told m agrees = fulfils_narrower advances.grows (told m agrees)
 
-    -- the first side does not fail
-    pub seeks_first : {r : Sought} → Seeks (λ m. Fulfils s.kept hard soft found (is_true m)) (set s.values (slot b) (wish b)) r
-        → r.fails ≡ false → Seeks (λ m. Fulfils kept hard soft found (is_true m)) values r
-    seeks_first told fine = record { finds = found_there told; fails = λ e. absurd (true≢false (sym e ∙ fine)) }
-
-    -- it does, and the second side tells
-    pub seeks_second : {r q : Sought} → Seeks (λ m. Fulfils s.kept hard soft found (is_true m)) (set s.values (slot b) (wish b)) r
-        → r.fails ≡ true
-        → Seeks (λ m. Fulfils s.kept hard soft found (is_true m)) (set s.values (slot b) (1 - wish b)) q
-        → Seeks (λ m. Fulfils kept hard soft found (is_true m)) values q
-    seeks_second first fails second = record {
-      finds = found_there second;
-      fails = λ e m d agrees asked.
-          let was = advances.stays m d asked agrees in
-          let wider = fulfils_wider asked was.2 in
-          ⊎_elim (λ h. first.fails fails m d (agrees_set s.values m (slot b) (wish b) was.1 h) wider)
-          (λ h. second.fails e m d (agrees_set s.values m (slot b) (1 - wish b) was.1 h) wider) (value_cases m b d);
-    }
+    -- it does not, and the second side tells
+    pub seeks_second : Seeks (λ m. Fulfils q s.kept (is_true m)) (set s.values (slot b) (wish b)) None
+        → (r : Option (List ℕ)) → Seeks (λ m. Fulfils q s.kept (is_true m)) (set s.values (slot b) (1 - wish b)) r
+        → Seeks (λ m. Fulfils q kept (is_true m)) values r
+    seeks_second first (Some r) second = seeks_first r second
+    seeks_second first None second = λ m d fulfils agrees.
+        let was = advances.stays m d fulfils agrees in
+        let wider = fulfils_wider fulfils was.1 in
+        ⊎_elim (λ h. first m d wider (agrees_set s.values m (slot b) (wish b) was.0 h))
+        (λ h. second m d wider (agrees_set s.values m (slot b) (1 - wish b) was.0 h)) (value_cases m b d)
 
     -- either side has fewer free values
     pub split_less : 1 < get_or s.values (slot b) 0 → (x : ℕ) → x ≤ 1 → free_count (set s.values (slot b) x) < free_count values

@@ -1,11 +1,14 @@
 -- The question under List: kept and given-up settings as two sets, found sets as a list.
-use Rattle.std.specs.Prelude.{refl, ◌↔◌, List, [], ◌∷◌, ℕ, zero, suc, ◌^◌, ◌≤◌, ◌<◌, get_or}
+use Rattle.std.specs.Prelude.{refl, ◌↔◌, List, [], ◌∷◌, ℕ, zero, suc, ◌^◌, ◌≤◌, ◌<◌, get_or, Option, Some, None}
 use Rattle.std.proofs.Common.{zero-le, arith, lit<}
 use Rattle.sets.specs.Sets.{In}
 use Rattle.sets.specs.Lists.{Among}
 use Rattle.setups.specs.Setups.{Setup, setup, count, SettingTrue, Models}
-use Rattle.question.specs.declared.Reply.{Reply}
-use Rattle.question.specs.declared.Reply.TheVariants.{Yes, No}
+use Rattle.setups.specs.declared.taken.TakenSetup.{TakenSetup}
+
+-- the setup that the code holds
+abbrev pub setup_of : TakenSetup → Setup
+setup_of taken = setup taken.variables taken.hard.now taken.soft.now
 
 -- m meets the hard clauses, each kept setting, and of each found set one setting
 pub record Meets (g : Setup) (kept : ℕ) (found m : List ℕ) : Type 0 where
@@ -21,13 +24,13 @@ pub record Shows (g : Setup) (m : List ℕ) (w : ℕ) : Type 0 where
   pub below : w < 2 ^ count g
   pub exact : (i : ℕ) → i < count g → In i w ↔ SettingTrue g m i
 
--- Yes: w is what some model makes true that meets what is asked. No: no such model also breaks every given-up setting.
-abbrev pub Says : Setup → ℕ → ℕ → List ℕ → Reply → Type 0
-Says g kept given found (Yes w) = (m : List ℕ) × Meets g kept found m × Shows g m w
-Says g kept given found No = (m : List ℕ) → Meets g kept found m → Breaks g given m → ⊥
+-- Some w: w is what some model makes true that meets what is asked. None: no such model also breaks every given-up setting.
+abbrev pub Says : Setup → ℕ → ℕ → List ℕ → Option ℕ → Type 0
+Says g kept given found (Some w) = (m : List ℕ) × Meets g kept found m × Shows g m w
+Says g kept given found None = (m : List ℕ) → Meets g kept found m → Breaks g given m → ⊥
 
--- soft (1), (−1), the first kept: Yes, and the model 1 makes it alone true
-example_says : Says (setup 1 [] (1 ∷ 0 ∷ 129 ∷ 0 ∷ [])) 1 0 [] (Yes 1)
+-- soft (1), (−1), the first kept: the model 1 makes it alone true
+example_says : Says (setup 1 [] (1 ∷ 0 ∷ 129 ∷ 0 ∷ [])) 1 0 [] (Some 1)
 example_says = (1 ∷ [], record { models = models; each = λ W h. absurd h }, record { below = lit< tt; exact = exact })
   where
     bits : (i : ℕ) → i < 1 → get_or (1 ∷ []) i 0 ≤ 1

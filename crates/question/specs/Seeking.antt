@@ -1,5 +1,5 @@
 -- What is asked over a test of literals, and what a round of the rules, the choice of a literal and the search promise.
-use Rattle.std.specs.Prelude.{◌≡◌, Bool, true, false, List, [], ◌∷◌, ℕ, ◌+◌, ◌≤◌, ◌<◌, T, get_or}
+use Rattle.std.specs.Prelude.{◌≡◌, Bool, true, List, [], ◌∷◌, ℕ, ◌+◌, ◌≤◌, ◌<◌, T, get_or, Option, Some, None}
 use Rattle.std.proofs.Common.{lit<}
 use Rattle.sets.specs.Sets.{Within}
 use Rattle.sets.specs.Tests.{has}
@@ -10,46 +10,49 @@ use Rattle.literals.specs.Slots.{slot, AllSet}
 use Rattle.forcing.specs.Holding.{is_true, holds}
 use Rattle.forcing.specs.Values.{AgreesWith}
 use Rattle.forcing.specs.Standings.{Stands}
+use Rattle.question.specs.declared.asked.Asked.{Asked}
 use Rattle.question.specs.declared.seeking.Round.{Round}
-use Rattle.question.specs.declared.choosing.Choice.{Choice}
-use Rattle.question.specs.declared.choosing.Choice.TheVariants.{Try, NothingToTry}
-use Rattle.question.specs.declared.seeking.Sought.{Sought}
 
 -- the hard clauses pass, each kept setting holds, and of each found set one setting
-pub record Fulfils (kept : ℕ) (hard soft found : List ℕ) (test : ℕ → Bool) : Type 0 where
-  pub rules : T (all_pass test (clauses hard))
-  pub fit : Fit kept found (holds test soft)
+pub record Fulfils (asked : Asked) (kept : ℕ) (test : ℕ → Bool) : Type 0 where
+  pub rules : T (all_pass test (clauses asked.hard.now))
+  pub fit : Fit kept asked.found.now (holds test asked.soft.now)
 
--- a round that fails
-abbrev pub failing : List ℕ → ℕ → Round
-failing values kept = record { fails = true; moved = false; kept = kept; standing = record { sure = 0; possible = 0 }; values = values }
+-- no assignment that agrees with the values is an answer
+abbrev pub NoneAgrees : (List ℕ → Type 0) → List ℕ → Type 0
+NoneAgrees Answer values = (m : List ℕ) → AllSet m → Answer m → ¬ AgreesWith values m
 
 -- From the values and the kept settings to those of r: what meets what is asked and agrees with the values agrees with those of r and
--- makes its kept settings true, and then r does not fail. Where r has moved, fewer values are free or more settings are kept.
-pub record Advances (kept : ℕ) (hard soft found values : List ℕ) (r : Round) : Type 0 where
+-- makes its kept settings true. Where r has moved, fewer values are free or more settings are kept.
+pub record AdvancesTo (asked : Asked) (kept : ℕ) (values : List ℕ) (r : Round) : Type 0 where
   pub less : free_count r.values ≤ free_count values
   pub grows : Within kept r.kept
   pub moves : r.moved ≡ true → free_count r.values + kept < free_count values + r.kept
-  pub stands : r.fails ≡ false → Stands r.values soft r.standing
-  pub stays : (m : List ℕ) → AllSet m → Fulfils kept hard soft found (is_true m) → AgreesWith values m
-      → (r.fails ≡ false) × AgreesWith r.values m × Each r.kept (holds (is_true m) soft)
+  pub stands : Stands r.values asked.soft.now r.standing
+  pub stays : (m : List ℕ) → AllSet m → Fulfils asked kept (is_true m) → AgreesWith values m
+      → AgreesWith r.values m × Each r.kept (holds (is_true m) asked.soft.now)
 
--- what is asked is met so far, where the settings of `sure` are true
-pub record Done (kept sure : ℕ) (values hard found : List ℕ) : Type 0 where
-  pub rules : T (all_pass (is_true values) (clauses hard))
-  pub fit : Fit kept found (has sure)
+-- None only where nothing that agrees with the values meets what is asked
+abbrev pub Advances : Asked → ℕ → List ℕ → Option Round → Type 0
+Advances asked kept values (Some r) = AdvancesTo asked kept values r
+Advances asked kept values None = NoneAgrees (λ m. Fulfils asked kept (is_true m)) values
+
+-- what is asked is met so far: the settings that are true already suffice
+pub record Done (asked : Asked) (r : Round) : Type 0 where
+  pub rules : T (all_pass (is_true r.values) (clauses asked.hard.now))
+  pub fit : Fit r.kept asked.found.now (has r.standing.sure)
 
 -- the variable is free; there is none only where no variable is free
-abbrev pub Chosen : List ℕ → Choice → Type 0
-Chosen values (Try b) = 1 < get_or values (slot b) 0
-Chosen values NothingToTry = AllSet values
+abbrev pub Chosen : List ℕ → Option ℕ → Type 0
+Chosen values (Some b) = 1 < get_or values (slot b) 0
+Chosen values None = AllSet values
 
 -- variable 1 is 0, variable 2 is free: −2 may be chosen
-example_chosen : Chosen (0 ∷ 2 ∷ []) (Try 130)
+example_chosen : Chosen (0 ∷ 2 ∷ []) (Some 130)
 example_chosen = lit< tt
 
--- What a search from the values tells: either every assignment that agrees with those of r is an answer, or, where it fails, none
--- that agrees with the values is one.
-pub record Seeks (Answer : List ℕ → Type 0) (values : List ℕ) (r : Sought) : Type 0 where
-  pub finds : r.fails ≡ false → (m : List ℕ) → AgreesWith r.values m → Answer m
-  pub fails : r.fails ≡ true → (m : List ℕ) → AllSet m → AgreesWith values m → Answer m → ⊥
+-- What a search from the values tells: every assignment that agrees with those it gives is an answer, and it gives none only where no
+-- assignment that agrees with the values is one.
+abbrev pub Seeks : (List ℕ → Type 0) → List ℕ → Option (List ℕ) → Type 0
+Seeks Answer values (Some r) = (m : List ℕ) → AgreesWith r m → Answer m
+Seeks Answer values None = NoneAgrees Answer values

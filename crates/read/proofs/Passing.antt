@@ -1,191 +1,267 @@
--- A pass over the text: what the frame at a place tells, and how the pass goes on from there.
+-- The pass that checks: which frame the reader tells of at a place, and what the lines come to from there.
 use mathlib.Core.Path.{◌≡◌, refl, sym, ap, ◌∙◌, subst}
-use mathlib.Core.Bool.{false, cond, true≢false}
-use mathlib.Core.List.{List, [], ◌∷◌, ◌++◌, append-nil}
-use Prim.Native.Nat.{ℕ, ◌+◌, ◌-◌, ◌*◌, ◌^◌, ◌≤◌, ◌<◌}
+use mathlib.Core.List.{List, [], ◌∷◌, ◌++◌}
+use Prim.Native.Nat.{ℕ, ◌+◌, ◌≤◌, ◌<◌}
 use native.Mathlib.Omega.{arith}
-use borrow.Author.Tests.{ltb-true, ltb-false}
-use lib.Dec.{ltb}
 use lib.ListN.{length, drop, length-append}
-use Rattle.numbers.proofs.Deciding.{cond_case}
+use Rattle.std.proofs.Common.{Option, Some, None, Result, Ok, Err, Bor}
+use Rattle.frames.specs.declared.frames.Frame.{Frame as ToldFrame}
+use Rattle.frames.specs.declared.frames.Frame.TheVariants.{Header, Hard, Soft, End}
 use Rattle.frames.specs.declared.frames.Found.{Found}
-use Rattle.frames.specs.declared.frames.Found.TheVariants.{Header, Hard, Soft, End, NoFrame}
+use Rattle.frames.specs.declared.reader.FrameReader.{FrameReader}
 use Rattle.frames.specs.Frames.{lines, hard_kind, soft_kind, Frame, header, hard, soft, end, no_frame, frame}
-use Rattle.frames.specs.Code.Found.{place_after, found, found_at, next_place}
+use Rattle.frames.specs.Code.Found.{place_after, told, found, found_at, next_place}
 use Rattle.frames.proofs.Lines.{first}
-use Rattle.read.specs.declared.Checked.{Checked}
-use Rattle.read.specs.declared.Checked.TheVariants.{Good, Bad}
-use Rattle.read.specs.declared.Stage.{Stage}
-use Rattle.read.specs.declared.Stage.TheVariants.{Fresh, Under}
-use Rattle.read.specs.declared.Advance.{Advance}
-use Rattle.read.specs.declared.Advance.TheVariants.{On, Over}
-use Rattle.read.specs.Texts.{Sofar, fresh, under, closed, spoilt, ending, following, good, bad, close, follow, judge, is_bad, hard_of, soft_of}
-use Rattle.read.specs.Code.Passes.{checked, advance, grown, literals_found, hard_bytes, soft_bytes}
-use Rattle.read.proofs.Following.{Real, Clause, clause, frame_ends, within, follow_end, follow_bad, follow_none, follow_frame}
+use Rattle.read.specs.declared.ReadSetup.{ReadSetup}
+use Rattle.read.specs.declared.BadLine.{BadLine}
+use Rattle.read.specs.Texts.{Sofar, fresh, under, closed, spoilt, ending, following, good, bad, close, follow, judge}
+use Rattle.read.specs.Code.Passes.{checked}
+use Rattle.read.proofs.Following.{Real, Clause, clause, frame_ends, follow_end, follow_bad, follow_none, follow_frame}
 
--- ---- which frame is found
+-- ---- which frame is told of
 
--- f is the frame that the reader found at a place
-abbrev pub Tells : ℕ → Frame → Found → Type 0
-Tells at f (Header count place) = (f ≡ header count) × (place ≡ place_after at (header count))
-Tells at f (Hard k place) = (ls : List ℕ) × (f ≡ hard ls) × (k ≡ length ls) × (place ≡ place_after at (hard ls))
-Tells at f (Soft k place) = (ls : List ℕ) × (f ≡ soft ls) × (k ≡ length ls) × (place ≡ place_after at (soft ls))
-Tells at f (End place) = (f ≡ end) × (place ≡ place_after at end)
-Tells at f NoFrame = f ≡ no_frame
+-- what is found tells of the frame f
+abbrev Tells : ℕ → Frame → Option Found → Type 0
+Tells at f None = f ≡ no_frame
+Tells at f (Some r) = (told f ≡ Some r.frame) × (r.next ≡ place_after at f)
 
 tells : (at : ℕ) (f : Frame) → Tells at f (found at f)
 tells at (header count) = (refl, refl)
-tells at (hard ls) = (ls, refl, refl, refl)
-tells at (soft ls) = (ls, refl, refl, refl)
+tells at (hard ls) = (refl, refl)
+tells at (soft ls) = (refl, refl)
 tells at end = (refl, refl)
 tells at no_frame = refl
 
-pub found_tells : (t : List ℕ) (at : ℕ) (r : Found) → r ≡ found_at t at → Tells at (frame (first (drop at t))) r
+found_tells : (t : List ℕ) (at : ℕ) (r : Option Found) → r ≡ found_at t at → Tells at (frame (first (drop at t))) r
 unfolding found_at
 found_tells t at r e = subst (Tells at (frame (first (drop at t)))) (sym e) (tells at (frame (first (drop at t))))
 
--- a clause's literals stand after its kind
-module _ (t : List ℕ) (at k place : ℕ) where
-  pub hard_clause : (e : Hard k place ≡ found_at t at) → Clause t at (found_tells t at (Hard k place) e).0 k
-  hard_clause e = let f = found_tells t at (Hard k place) e in clause t at (hard f.0) hard_kind f.0 k f.1 tt refl f.2
+-- each kind
+told_header : (f : Frame) (count : ℕ) → told f ≡ Some (Header count) → f ≡ header count
+told_header (header c) count e = cc
+told_header (hard ls) count e = cc
+told_header (soft ls) count e = cc
+told_header end count e = cc
+told_header no_frame count e = cc
 
-  pub soft_clause : (e : Soft k place ≡ found_at t at) → Clause t at (found_tells t at (Soft k place) e).0 k
-  soft_clause e = let f = found_tells t at (Soft k place) e in clause t at (soft f.0) soft_kind f.0 k f.1 tt refl f.2
+told_hard : (f : Frame) (k : ℕ) → told f ≡ Some (Hard k) → (ls : List ℕ) × (f ≡ hard ls) × (k ≡ length ls)
+told_hard (header c) k e = cc
+told_hard (hard ls) k e = (ls, refl, cc)
+told_hard (soft ls) k e = cc
+told_hard end k e = cc
+told_hard no_frame k e = cc
 
--- a literal takes two digits
-fits_at : (at : ℕ) (f : Frame) → at + 2 * literals_found (found at f) ≤ next_place at (found at f)
-fits_at at (header count) = omega arith
-fits_at at (hard ls) = omega arith
-fits_at at (soft ls) = omega arith
-fits_at at end = omega arith
-fits_at at no_frame = omega arith
+told_soft : (f : Frame) (k : ℕ) → told f ≡ Some (Soft k) → (ls : List ℕ) × (f ≡ soft ls) × (k ≡ length ls)
+told_soft (header c) k e = cc
+told_soft (hard ls) k e = cc
+told_soft (soft ls) k e = (ls, refl, cc)
+told_soft end k e = cc
+told_soft no_frame k e = cc
 
-literals_fit : (t : List ℕ) (at : ℕ) (r : Found) → r ≡ found_at t at → at + 2 * literals_found r ≤ next_place at r
-unfolding found_at
-literals_fit t at r e = rw e (fits_at at (frame (first (drop at t))))
+told_end : (f : Frame) → told f ≡ Some End → f ≡ end
+told_end (header c) e = cc
+told_end (hard ls) e = cc
+told_end (soft ls) e = cc
+told_end end e = refl
+told_end no_frame e = cc
+
+-- a frame stands at a place, and its line ends before the next
+pub record Stands (t : List ℕ) (at : ℕ) (f : Frame) (next : ℕ) : Type 0 where
+  pub is : frame (first (drop at t)) ≡ f
+  pub real : Real f
+  pub ends : next ≡ place_after at f
+
+-- the literals of a clause, k of them
+pub record Literals (t : List ℕ) (at : ℕ) (kind : List ℕ → Frame) (k next : ℕ) : Type 0 where
+  pub literals : List ℕ
+  pub stands : Stands t at (kind literals) next
+  pub size : k ≡ length literals
+  pub clause : Clause t at literals k
+
+module _ (t : List ℕ) (at : ℕ) (r : Found) (e : Some r ≡ found_at t at) where
+  pub header_stands : (count : ℕ) → r.frame ≡ Header count → Stands t at (header count) r.next
+  header_stands count q =
+      let f = found_tells t at (Some r) e in
+      let is = told_header _ count (f.0 ∙ ap Some q) in
+      record { is = is; real = tt; ends = f.1 ∙ ap (place_after at) is }
+
+  pub hard_stands : (k : ℕ) → r.frame ≡ Hard k → Literals t at hard k r.next
+  hard_stands k q =
+      let f = found_tells t at (Some r) e in
+      let is = told_hard _ k (f.0 ∙ ap Some q) in
+      record { literals = is.0; stands = record { is = is.1; real = tt; ends = f.1 ∙ ap (place_after at) is.1 }; size = is.2; clause = clause t at (hard is.0) hard_kind is.0 k is.1 tt refl is.2 }
+
+  pub soft_stands : (k : ℕ) → r.frame ≡ Soft k → Literals t at soft k r.next
+  soft_stands k q =
+      let f = found_tells t at (Some r) e in
+      let is = told_soft _ k (f.0 ∙ ap Some q) in
+      record { literals = is.0; stands = record { is = is.1; real = tt; ends = f.1 ∙ ap (place_after at) is.1 }; size = is.2; clause = clause t at (soft is.0) soft_kind is.0 k is.1 tt refl is.2 }
+
+  pub end_stands : r.frame ≡ End → Stands t at end r.next
+  end_stands q =
+      let f = found_tells t at (Some r) e in
+      let is = told_end _ (f.0 ∙ ap Some q) in
+      record { is = is; real = tt; ends = f.1 ∙ ap (place_after at) is }
+
+pub none_stands : (t : List ℕ) (at : ℕ) → None ≡ found_at t at → frame (first (drop at t)) ≡ no_frame
+none_stands t at e = found_tells t at None e
 
 -- the next place lies within the text
-pub place_within : (t : List ℕ) (at : ℕ) (r : Found) → r ≡ found_at t at → at ≤ length t → next_place at r ≤ length t
-place_within t at (Header count place) e h = let f = found_tells t at (Header count place) e in omega (arith, f.1, frame_ends t at (header count) h f.0 tt)
-place_within t at (Hard k place) e h = let f = found_tells t at (Hard k place) e in omega (arith, f.3, frame_ends t at (hard f.0) h f.1 tt)
-place_within t at (Soft k place) e h = let f = found_tells t at (Soft k place) e in omega (arith, f.3, frame_ends t at (soft f.0) h f.1 tt)
-place_within t at (End place) e h = let f = found_tells t at (End place) e in omega (arith, f.1, frame_ends t at end h f.0 tt)
-place_within t at NoFrame e h = h
+pub stands_within : (t : List ℕ) (at : ℕ) (f : Frame) (next : ℕ) → at ≤ length t → Stands t at f next → next ≤ length t
+stands_within t at f next h s = rw s.ends (frame_ends t at f h s.is s.real)
+
+module _ (t : List ℕ) (at n : ℕ) (sofar : Sofar) (goes : follow n sofar (lines (drop at t)) ≡ judge t) where
+  -- past a frame
+  pub onward : (f : Frame) (next : ℕ) → Stands t at f next → follow (n + 1) (following n sofar f) (lines (drop next t)) ≡ judge t
+  onward f next s = rw s.ends (sym (follow_frame t at n sofar f s.is s.real) ∙ goes)
+
+  -- at a line that may not stand here
+  pub stops : (f : Frame) → frame (first (drop at t)) ≡ f → close n sofar ≡ bad n → following n sofar f ≡ spoilt n → judge t ≡ bad n
+  stops f e c b = sym goes ∙ follow_none t at n sofar c (rw e b)
+
+pub begins : (t : List ℕ) → follow 1 fresh (lines (drop 0 t)) ≡ judge t
+unfolding judge
+begins t = refl
 
 -- ---- the pass
+
+-- what the reader's `next` tells and leaves
+abbrev pub Gives : FrameReader → Option Found → FrameReader → Type 0
+Gives before o after = (o ≡ found_at before.text.now before.at) × (after.text ≡ before.text) × (after.at ≡ next_place before.at o)
+
+-- the reader stands at a place of the text
+pub record Within (t : List ℕ) (reader : FrameReader) : Type 0 where
+  pub text : reader.text.now ≡ t
+  pub inside : reader.at ≤ length t
+
+-- what it tells there is found in that text
+pub found_there : (t : List ℕ) (before after : FrameReader) (o : Option Found) → Within t before → Gives before o after → o ≡ found_at t before.at
+found_there t before after o w g = g.0 ∙ ap (λ (text : List ℕ). found_at text before.at) w.text
+
+-- past a frame it stands there too
+pub passes : (t : List ℕ) (before after : FrameReader) (r : Found) (f : Frame) → Within t before → Gives before (Some r) after → Stands t before.at f r.next → Within t after
+passes t before after r f w g s =
+    record { text = ap (λ (text : Bor (List ℕ)). text.now) g.1 ∙ w.text; inside = omega (arith, g.2, stands_within t before.at f r.next w.inside s) }
+
+-- it begins there
+pub new_within : (text : Bor (List ℕ)) (reader : FrameReader) → (reader.text ≡ text) × (reader.at ≡ 0) → Within text.now reader
+new_within text reader e = record { text = ap (λ (text : Bor (List ℕ)). text.now) e.0; inside = omega (arith, e.1) }
 
 -- how many bytes there are with a clause more
 clause_length : (bytes ls : List ℕ) (n k : ℕ) → n ≡ length bytes → k ≡ length ls → n + (k + 1) ≡ length (bytes ++ ending ls)
 clause_length bytes ls n k b e = rw (length-append bytes (ending ls), length-append ls (0 ∷ [])) (omega arith)
 
--- at a place of the text, before this line, these clause bytes have come
-pub record Underway (t : List ℕ) (at count hards softs line : ℕ) : Type 0 where
+-- before this line these clause bytes have come, and the lines from the reader's place on decide what the text says
+pub record Underway (t : List ℕ) (reader : FrameReader) (count hards softs line : ℕ) : Type 0 where
+  pub within : Within t reader
   pub h : List ℕ
   pub s : List ℕ
   pub hard_is : hards ≡ length h
   pub soft_is : softs ≡ length s
-  pub small : hards + softs + line + 3 ≤ at
-  pub goes : follow line (under count h s) (lines (drop at t)) ≡ judge t
+  pub small : hards + softs + line + 3 ≤ reader.at
+  pub goes : follow line (under count h s) (lines (drop reader.at t)) ≡ judge t
 
--- the lines from there on decide what the text says
-abbrev pub Reached : List ℕ → ℕ → Stage → Type 0
-Reached t at Fresh = follow 1 fresh (lines (drop at t)) ≡ judge t
-Reached t at (Under count hards softs line) = Underway t at count hards softs line
+-- what is told of a bad text, and of a good one
+abbrev tells_bad : ℕ → Result ReadSetup BadLine
+tells_bad n = Err (record { line = n })
 
-pub begins : (t : List ℕ) → Reached t 0 Fresh
-unfolding judge
-begins t = refl
+abbrev tells_good : ℕ → ℕ → ℕ → Result ReadSetup BadLine
+tells_good count hards softs = Ok (record { count = count; hard_filled = hards; soft_filled = softs })
 
-abbrev pub hard_come : (t : List ℕ) (at : ℕ) (stage : Stage) → Reached t at stage → List ℕ
-hard_come t at Fresh u = []
-hard_come t at (Under count hards softs line) u = u.h
+is_bad_at : (t : List ℕ) (n : ℕ) → judge t ≡ bad n → tells_bad n ≡ checked (judge t)
+is_bad_at t n b = rw b
 
-abbrev pub soft_come : (t : List ℕ) (at : ℕ) (stage : Stage) → Reached t at stage → List ℕ
-soft_come t at Fresh u = []
-soft_come t at (Under count hards softs line) u = u.s
+module _ (t : List ℕ) (before after : FrameReader) (o : Option Found) (starts : before.at ≡ 0) (w : Within t before) (g : Gives before o after) where
+  here : o ≡ found_at t 0
+  here = found_there t before after o w g ∙ ap (found_at t) starts
 
-module _ (t : List ℕ) (at : ℕ) where
-  -- what has come with the frame that is found here
-  abbrev pub hard_then : (stage : Stage) → Reached t at stage → Found → List ℕ
-  hard_then stage u r = hard_come t at stage u ++ hard_bytes t at r
-
-  abbrev pub soft_then : (stage : Stage) → Reached t at stage → Found → List ℕ
-  soft_then stage u r = soft_come t at stage u ++ soft_bytes t at r
-
-  -- the pass goes on at a place nearer to the text's end; or it is over with what the text says, and all of a good text has come
-  abbrev pub Leads : (stage : Stage) → Reached t at stage → Found → Advance → Type 0
-  Leads stage u r (On p) =
-      let place = next_place at r in
-      (v : Reached t place p) × (length t - place < length t - at) × (hard_come t place p v ≡ hard_then stage u r) × (soft_come t place p v ≡ soft_then stage u r)
-  Leads stage u r (Over result) = (result ≡ checked (judge t)) × (is_bad (judge t) ≡ false → (hard_then stage u r ≡ hard_of (judge t)) × (soft_then stage u r ≡ soft_of (judge t)))
-
-  -- the sums fit where the next place does
-  pub sums_fit : (stage : Stage) (r : Found) → Reached t at stage → r ≡ found_at t at → next_place at r < 2 ^ 64 → grown stage + literals_found r + 1 < 2 ^ 64
-  sums_fit Fresh r goes e l = omega (arith, literals_fit t at r e)
-  sums_fit (Under count hards softs line) r u e l = omega (arith, u.small, literals_fit t at r e)
-
-  -- a bad text
-  bad_leads : (stage : Stage) (u : Reached t at stage) (r : Found) (n : ℕ) → judge t ≡ bad n → Leads stage u r (Over (Bad n))
-  bad_leads stage u r n b = (rw b, λ e. absurd (true≢false (sym (ap is_bad b) ∙ e)))
-
-  module _ (n : ℕ) (sofar : Sofar) (goes : follow n sofar (lines (drop at t)) ≡ judge t) where
-    -- past a frame
-    onward : (f : Frame) (place : ℕ) → frame (first (drop at t)) ≡ f → Real f → place ≡ place_after at f → (follow (n + 1) (following n sofar f) (lines (drop place t)) ≡ judge t) × (length t - place < length t - at)
-    onward f place e r z = (rw z (sym (follow_frame t at n sofar f e r) ∙ goes), omega (arith, within t at n sofar f e r))
-
-    -- at a line that may not stand here
-    stops : (f : Frame) → frame (first (drop at t)) ≡ f → close n sofar ≡ bad n → following n sofar f ≡ spoilt n → judge t ≡ bad n
-    stops f e c b = sym goes ∙ follow_none t at n sofar c (rw e b)
-
-  module _ (count hards softs line : ℕ) (u : Underway t at count hards softs line) where
-    -- FF: it is the last line, or the line after it is bad
-    ended : (place : ℕ) → End place ≡ found_at t at → Leads (Under count hards softs line) u (End place) (Over (cond (ltb place (length t)) (Bad (line + 1)) (Good count hards softs)))
-    ended place e =
-        let f = found_tells t at (End place) e in
-        let sofar = closed count u.h u.s in
-        let goes = (onward line (under count u.h u.s) u.goes end place f.0 tt f.1).0 in
-        cond_case (λ (c : Checked). Leads (Under count hards softs line) u (End place) (Over c)) (ltb place (length t))
-        (λ q. bad_leads (Under count hards softs line) u (End place) (line + 1) (sym goes ∙ follow_bad t place (line + 1) sofar (ltb-true place (length t) q) refl))
-        (λ q. let j : judge t ≡ good count u.h u.s = sym goes ∙ follow_end t place (line + 1) sofar (ltb-false place (length t) q) in
-        (rw (j, u.hard_is, u.soft_is), λ _. (rw (j, append-nil u.h), rw (j, append-nil u.s))))
-
-  pub leads : (stage : Stage) (r : Found) (u : Reached t at stage) → r ≡ found_at t at → Leads stage u r (advance stage r (length t))
-  leads Fresh (Header count place) goes e =
-      let f = found_tells t at (Header count place) e in
-      let on = onward 1 fresh goes (header count) place f.0 tt f.1 in
-      (record { h = []; s = []; hard_is = refl; soft_is = refl; small = omega (arith, f.1); goes = on.0 }, on.1, refl, refl)
-  leads Fresh (Hard k place) goes e = let f = found_tells t at (Hard k place) e in bad_leads Fresh goes (Hard k place) 1 (stops 1 fresh goes (hard f.0) f.1 refl refl)
-  leads Fresh (Soft k place) goes e = let f = found_tells t at (Soft k place) e in bad_leads Fresh goes (Soft k place) 1 (stops 1 fresh goes (soft f.0) f.1 refl refl)
-  leads Fresh (End place) goes e = bad_leads Fresh goes (End place) 1 (stops 1 fresh goes end (found_tells t at (End place) e).0 refl refl)
-  leads Fresh NoFrame goes e = bad_leads Fresh goes NoFrame 1 (stops 1 fresh goes no_frame (found_tells t at NoFrame e) refl refl)
-  leads (Under count hards softs line) (Header again place) u e =
-      bad_leads (Under count hards softs line) u (Header again place) line (stops line (under count u.h u.s) u.goes (header again) (found_tells t at (Header again place) e).0 refl refl)
-  leads (Under count hards softs line) (Hard k place) u e =
-      let f = found_tells t at (Hard k place) e in
-      let on = onward line (under count u.h u.s) u.goes (hard f.0) place f.1 tt f.3 in
-      let v : Underway t place count (hards + (k + 1)) softs (line + 1) =
+  -- the first line is a header,
+  pub first_header : (r : Found) (count : ℕ) → o ≡ Some r → r.frame ≡ Header count → Underway t after count 0 0 2
+  first_header r count e q =
+      let s = header_stands t 0 r (sym e ∙ here) count q in
+      let at : after.at ≡ r.next = g.2 ∙ ap (next_place before.at) e in
       record {
-        h = u.h ++ ending f.0;
-        s = u.s;
-        hard_is = clause_length u.h f.0 hards k u.hard_is f.2;
-        soft_is = u.soft_is;
-        small = omega (arith, u.small, f.2, f.3);
-        goes = on.0;
-      } in
-      (v, on.1, ap (λ (ls : List ℕ). u.h ++ ending ls) (hard_clause t at k place e).are, sym (append-nil u.s))
-  leads (Under count hards softs line) (Soft k place) u e =
-      let f = found_tells t at (Soft k place) e in
-      let on = onward line (under count u.h u.s) u.goes (soft f.0) place f.1 tt f.3 in
-      let v : Underway t place count hards (softs + (k + 1)) (line + 1) =
-      record {
-        h = u.h;
-        s = u.s ++ ending f.0;
-        hard_is = u.hard_is;
-        soft_is = clause_length u.s f.0 softs k u.soft_is f.2;
-        small = omega (arith, u.small, f.2, f.3);
-        goes = on.0;
-      } in
-      (v, on.1, sym (append-nil u.h), ap (λ (ls : List ℕ). u.s ++ ending ls) (soft_clause t at k place e).are)
-  leads (Under count hards softs line) (End place) u e = ended count hards softs line u place e
-  leads (Under count hards softs line) NoFrame u e =
-      bad_leads (Under count hards softs line) u NoFrame line (stops line (under count u.h u.s) u.goes no_frame (found_tells t at NoFrame e) refl refl)
+        within = record { text = ap (λ (text : Bor (List ℕ)). text.now) g.1 ∙ w.text; inside = omega (arith, at, stands_within t 0 (header count) r.next (omega arith) s) };
+        h = [];
+        s = [];
+        hard_is = refl;
+        soft_is = refl;
+        small = omega (arith, at, s.ends);
+        goes = rw at (onward t 0 1 fresh (begins t) (header count) r.next s);
+      }
+
+  -- or it is bad
+  pub no_first : o ≡ None → tells_bad 1 ≡ checked (judge t)
+  no_first e = is_bad_at t 1 (stops t 0 1 fresh (begins t) no_frame (none_stands t 0 (sym e ∙ here)) refl refl)
+
+  pub first_other : (r : Found) → o ≡ Some r → ((count : ℕ) → ¬ (r.frame ≡ Header count)) → tells_bad 1 ≡ checked (judge t)
+  first_other r e other = first_case r.frame refl
+    where
+      stop : (f : Frame) → Stands t 0 f r.next → following 1 fresh f ≡ spoilt 1 → tells_bad 1 ≡ checked (judge t)
+      stop f s b = is_bad_at t 1 (stops t 0 1 fresh (begins t) f s.is refl b)
+
+      first_case : (told : ToldFrame) → r.frame ≡ told → tells_bad 1 ≡ checked (judge t)
+      first_case (Header count) q = absurd (other count q)
+      first_case (Hard k) q = let x = hard_stands t 0 r (sym e ∙ here) k q in stop (hard x.literals) x.stands refl
+      first_case (Soft k) q = let x = soft_stands t 0 r (sym e ∙ here) k q in stop (soft x.literals) x.stands refl
+      first_case End q = stop end (end_stands t 0 r (sym e ∙ here) q) refl
+
+module _ {t : List ℕ} {before : FrameReader} {count hards softs line : ℕ} (u : Underway t before count hards softs line) (after : FrameReader) where
+  -- no frame
+  pub no_more : Gives before None after → tells_bad line ≡ checked (judge t)
+  no_more g = is_bad_at t line (stops t before.at line (under count u.h u.s) u.goes no_frame (none_stands t before.at (found_there t before after None u.within g)) refl refl)
+
+  module _ (r : Found) (g : Gives before (Some r) after) where
+    e : Some r ≡ found_at t before.at
+    e = found_there t before after (Some r) u.within g
+
+    -- the lines after a frame
+    onward_from : (f : Frame) → Stands t before.at f r.next → follow (line + 1) (following line (under count u.h u.s) f) (lines (drop after.at t)) ≡ judge t
+    onward_from f s = rw g.2 (onward t before.at line (under count u.h u.s) u.goes f r.next s)
+
+    -- a second header
+    pub header_again : (again : ℕ) → r.frame ≡ Header again → tells_bad line ≡ checked (judge t)
+    header_again again q = is_bad_at t line (stops t before.at line (under count u.h u.s) u.goes (header again) (header_stands t before.at r e again q).is refl refl)
+
+    -- a clause more
+    pub hard_more : (k : ℕ) → r.frame ≡ Hard k → Underway t after count (hards + (k + 1)) softs (line + 1)
+    hard_more k q =
+        let x = hard_stands t before.at r e k q in
+        record {
+          within = passes t before after r (hard x.literals) u.within g x.stands;
+          h = u.h ++ ending x.literals;
+          s = u.s;
+          hard_is = clause_length u.h x.literals hards k u.hard_is x.size;
+          soft_is = u.soft_is;
+          small = omega (arith, u.small, x.size, x.stands.ends, g.2);
+          goes = onward_from (hard x.literals) x.stands;
+        }
+
+    pub soft_more : (k : ℕ) → r.frame ≡ Soft k → Underway t after count hards (softs + (k + 1)) (line + 1)
+    soft_more k q =
+        let x = soft_stands t before.at r e k q in
+        record {
+          within = passes t before after r (soft x.literals) u.within g x.stands;
+          h = u.h;
+          s = u.s ++ ending x.literals;
+          hard_is = u.hard_is;
+          soft_is = clause_length u.s x.literals softs k u.soft_is x.size;
+          small = omega (arith, u.small, x.size, x.stands.ends, g.2);
+          goes = onward_from (soft x.literals) x.stands;
+        }
+
+    -- FF: the line after it is bad, or it is the last
+    module _ (q : r.frame ≡ End) where
+      closes : follow (line + 1) (closed count u.h u.s) (lines (drop r.next t)) ≡ judge t
+      closes = onward t before.at line (under count u.h u.s) u.goes end r.next (end_stands t before.at r e q)
+
+      pub line_after : r.next < length t → tells_bad (line + 1) ≡ checked (judge t)
+      line_after l = is_bad_at t (line + 1) (sym closes ∙ follow_bad t r.next (line + 1) (closed count u.h u.s) l refl)
+
+      pub line_last : length t ≤ r.next → tells_good count hards softs ≡ checked (judge t)
+      line_last l =
+          let j : judge t ≡ good count u.h u.s = sym closes ∙ follow_end t r.next (line + 1) (closed count u.h u.s) l in
+          rw (j, u.hard_is, u.soft_is)
+
+-- what has been counted after each clause
+pub ruleset counts = (hard_more, soft_more)

@@ -1,8 +1,6 @@
 -- The laws behind the program's function.
 
--- what was put out lies within the output
-pub mod Within
--- how many places a result has filled
+-- how many places Read has filled
 pub mod Filled
 -- from what Read, List and Turn answer to the lines
 pub mod Answering

@@ -1,16 +1,15 @@
 -- The literals of readable buffers: where the code finds their values, and that a forced literal is one of them.
-use mathlib.Core.Path.{◌≡◌, ap, ◌∙◌, subst}
+use mathlib.Core.Path.{◌≡◌, ◌∙◌, subst}
 use mathlib.Core.Logic.{inl, inr, ⊎_elim}
 use mathlib.Core.List.{List, [], ◌∷◌, ◌++◌}
 use Prim.Native.Nat.{ℕ, suc, suc-le-suc}
 use native.Mathlib.Nat.{le_refl, zero-lt-suc}
-use lib.ListN.{length, get_or}
+use lib.ListN.{length}
 use Rattle.sets.specs.Lists.{Among}
-use Rattle.setups.specs.declared.Seen.{Seen}
 use Rattle.setups.specs.declared.Seen.TheVariants.{OneFree}
 use Rattle.setups.specs.Limits.{variables_most}
 use Rattle.setups.specs.Clauses.{clauses, LiteralOf, place}
-use Rattle.setups.specs.Searching.{see_value, see, scan}
+use Rattle.setups.specs.Searching.{scan}
 use Rattle.setups.specs.Ask.{units}
 use Rattle.setups.proofs.Scanning.{scan_right}
 use Rattle.setups.proofs.LiteralLaws.{clauses_literals}
@@ -21,11 +20,6 @@ use Rattle.scans.specs.Scans.{clauses_of, ReadableUnits, ReadableAll}
 -- where the code looks for a literal's value it stands
 pub slot_is_place : (b at : ℕ) → LiteralOf variables_most b → at ≡ slot b → at ≡ place b
 slot_is_place b at h e = e ∙ slot_place variables_most b (le_refl variables_most) h
-
--- so that it sees what the definition sees
-pub sees_value : (values : List ℕ) (seen : Seen) (b at : ℕ) → LiteralOf variables_most b → at ≡ slot b
-    → see_value seen b (get_or values at 0) ≡ see values seen b
-sees_value values seen b at h e = ap (λ (p : ℕ). see_value seen b (get_or values p 0)) (slot_is_place b at h e)
 
 -- each literal of each clause has its value among those of a search
 abbrev Literals : List (List ℕ) → Type 0

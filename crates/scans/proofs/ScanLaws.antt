@@ -44,6 +44,12 @@ rest_stops AllFalse k rest e = rw add-zero
 rest_stops (OneFree b) k rest e = rw add-zero
 rest_stops Enough k rest e = absurd (false≢true e)
 
+-- one that doesn't is passed
+undecided : (seen : Seen) → decides seen ≡ false → seen ≡ Enough
+undecided AllFalse e = absurd (false≢true (sym e))
+undecided (OneFree b) e = absurd (false≢true (sym e))
+undecided Enough e = refl
+
 further_further : (k j : ℕ) (s : Scanned) → further k (further j s) ≡ further (k + j) s
 further_further k j s = rw add_assoc
 
@@ -90,21 +96,17 @@ module _ {values bytes : List ℕ} {seen : Seen} {gone i : ℕ} (at : ScansFrom 
   }
 
   -- a clause ends that doesn't decide
-  pub scan_passes : i < length bytes → get_or bytes i 0 ≡ 0 → seen ≡ Enough → ScansFrom values bytes AllFalse (gone + 1) (i + 1)
+  pub scan_passes : i < length bytes → get_or bytes i 0 ≡ 0 → decides seen ≡ false → ScansFrom values bytes AllFalse (gone + 1) (i + 1)
   scan_passes l z e = record {
     inside = omega arith;
     fewer = omega (arith, at.fewer);
-    gives = end_here l z ∙ rw (e, resumed_start, further_further);
+    gives = end_here l z ∙ rw (undecided seen e, resumed_start, further_further);
   }
 
   -- or one that does
   pub scan_stops : i < length bytes → get_or bytes i 0 ≡ 0 → decides seen ≡ true
       → record { seen = seen; passed = gone } ≡ scanned values (clauses bytes)
   scan_stops l z e = sym (end_here l z ∙ rest_stops seen gone (scanned values (clauses (drop (i + 1) bytes))) e)
-
-  -- or the buffer does; a clause that no 0 ends is none
-  pub scan_ends : length bytes ≤ i → record { seen = Enough; passed = gone } ≡ scanned values (clauses bytes)
-  scan_ends l = sym (at.gives ∙ rw (drop_of_length-le bytes l, add-zero))
 
 -- ---- assumed literals
 
@@ -122,16 +124,20 @@ module _ {values assumed : List ℕ} {i : ℕ} (at : UnitsFrom values assumed i)
   unfolding see_clause
   unit_here l = at.gives ∙ rw (front assumed i l, scanned_clause)
 
-  pub unit_passes : i < length assumed → see values AllFalse (get_or assumed i 0) ≡ Enough → UnitsFrom values assumed (i + 1)
-  unit_passes l e = record { inside = omega arith; gives = unit_here l ∙ rw (e, further_further i 1) }
+  pub unit_passes : (seen : Seen) → i < length assumed → seen ≡ see values AllFalse (get_or assumed i 0) → decides seen ≡ false
+      → UnitsFrom values assumed (i + 1)
+  unit_passes seen l e d =
+      record { inside = omega arith; gives = unit_here l ∙ rw (sym e ∙ undecided seen d, further_further i 1) }
 
   pub unit_stops : (seen : Seen) → i < length assumed → seen ≡ see values AllFalse (get_or assumed i 0) → decides seen ≡ true
       → record { seen = seen; passed = i } ≡ scanned values (units assumed)
   unit_stops seen l e d = sym (unit_here l ∙ rw (← e) (rest_stops seen i (scanned values (units (drop (i + 1) assumed))) d))
 
-  pub units_end : length assumed ≤ i → record { seen = Enough; passed = i } ≡ scanned values (units assumed)
+  pub units_end : length assumed ≤ i → record { seen = Enough; passed = length assumed } ≡ scanned values (units assumed)
   unfolding scanned
-  units_end l = sym (at.gives ∙ rw (drop_of_length-le assumed l, add-zero))
+  units_end l =
+      let e : length assumed ≡ i = omega (arith, at.inside) in
+      rw e (sym (at.gives ∙ rw (drop_of_length-le assumed l, add-zero)))
 
 -- ---- part after part
 
@@ -158,9 +164,9 @@ pub part_decides : (values : List ℕ) (cs ds : List (List ℕ)) (s : Scanned) �
     → s ≡ scanned values (cs ++ ds)
 part_decides values cs ds s e d = rw (scanned_append values cs ds, ← e, d)
 
-pub part_passes : (values : List ℕ) (cs ds : List (List ℕ)) (s : Scanned) → s ≡ scanned values cs → decides s.seen ≡ false
-    → further s.passed (scanned values ds) ≡ scanned values (cs ++ ds)
-part_passes values cs ds s e d = rw (scanned_append values cs ds, ← e, d)
+pub part_passes : (values : List ℕ) (cs ds : List (List ℕ)) (s t after : Scanned) → s ≡ scanned values cs → decides s.seen ≡ false
+    → t ≡ scanned values ds → after ≡ further s.passed t → after ≡ scanned values (cs ++ ds)
+part_passes values cs ds s t after e d f g = g ∙ rw (f, scanned_append values cs ds, ← e, d)
 
 -- ---- a clause's number
 

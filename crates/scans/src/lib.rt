@@ -1,11 +1,17 @@
 // One scan over all clauses: the first that is wholly false or forces a literal decides, and its number is carried.
 #![tactic(auto)]
 
-ghost use Rattle.std.specs.Prelude.{◌≡◌, ◌+◌, ◌^◌, ◌<◌};
-ghost use Rattle.setups.specs.Clauses.{clauses};
-ghost use Rattle.setups.specs.Ask.{units};
-ghost use Rattle.scans.specs.Scans.{decides, further, scanned, clauses_of, Readable, ReadableUnits, ReadableAll};
+mod clauses;
 
+ghost use Rattle.std.specs.Prelude.{◌≡◌, ◌+◌, ◌^◌, ◌<◌};
+ghost use Rattle.setups.specs.Limits.{variables_most};
+ghost use Rattle.setups.specs.Clauses.{clauses, LiteralOf};
+ghost use Rattle.setups.specs.Searching;
+ghost use Rattle.setups.specs.Ask.{units};
+ghost use Rattle.scans.specs.Scans.{decides, further, scanned, Readable, ReadableUnits};
+ghost use Rattle.scans.specs.Parts.{all_of};
+
+pub use clauses::Clauses;
 use literals::{Values, see, slot};
 use setups::Seen;
 
@@ -21,48 +27,48 @@ impl Scanned {
     fn decides(self) -> bool
         ensures { result ≡ decides self.seen }
     {
-        let seen = self.seen;
-        match seen {
-            Seen::AllFalse => true,
-            Seen::OneFree(_) => true,
-            Seen::Enough => false,
-        }
+        !matches!(self.seen, Seen::Enough)
     }
 
     // The scan of a later part, after `passed` clauses that didn't decide.
-    fn further(mut self, passed: usize) -> Scanned
+    fn further(self, passed: usize) -> Scanned
         requires { passed + self.passed < 2 ^ 64 }
         ensures { result ≡ further passed self }
     {
-        self.passed = passed + self.passed;
-        self
+        Scanned {
+            passed: passed + self.passed,
+            ..self
+        }
     }
 }
 
-// The clauses of one buffer.
-fn scan(values: Values, bytes: &[u8]) -> Scanned
+// The clause so far with one literal more.
+fn see_under(values: &Values, seen: Seen, literal: u8) -> Seen
+    requires { LiteralOf variables_most literal }
+    ensures { result ≡ Searching.see values.now seen literal }
+{
+    see(seen, literal, values[slot(literal)])
+}
+
+// The clauses of one buffer; one that no 0 ends is none.
+#[tactic(auto, using(crate::proofs::ScanLaws::scan_starts))]
+fn scan(values: &Values, bytes: &[u8]) -> Scanned
     requires { Readable bytes.now }
-    ensures { result ≡ scanned values (clauses bytes.now) }
+    ensures { result ≡ scanned values.now (clauses bytes.now) }
 {
     let mut seen = Seen::AllFalse;
     let mut passed = 0;
-    let mut i = 0;
-    while i < bytes.len() {
-        let byte = bytes[i];
+    for &byte in bytes {
         if byte == 0 {
-            match seen {
-                Seen::Enough => {
-                    seen = Seen::AllFalse;
-                    passed += 1;
-                }
-                Seen::AllFalse => return Scanned { seen, passed },
-                Seen::OneFree(_) => return Scanned { seen, passed },
+            let ended = Scanned { seen, passed };
+            if ended.decides() {
+                return ended;
             }
+            seen = Seen::AllFalse;
+            passed += 1;
         } else {
-            let at = slot(byte);
-            seen = see(seen, byte, values[at]);
+            seen = see_under(values, seen, byte);
         }
-        i += 1;
     }
     Scanned {
         seen: Seen::Enough,
@@ -71,40 +77,36 @@ fn scan(values: Values, bytes: &[u8]) -> Scanned
 }
 
 // Assumed literals, each a clause of its own.
-fn scan_units(values: Values, assumed: &[u8]) -> Scanned
+#[tactic(auto, using(crate::proofs::ScanLaws::unit_passes, crate::proofs::ScanLaws::units_end))]
+fn scan_units(values: &Values, assumed: &[u8]) -> Scanned
     requires { ReadableUnits assumed.now }
-    ensures { result ≡ scanned values (units assumed.now) }
+    ensures { result ≡ scanned values.now (units assumed.now) }
 {
-    let mut i = 0;
-    while i < assumed.len() {
-        let literal = assumed[i];
-        let at = slot(literal);
-        let seen = see(Seen::AllFalse, literal, values[at]);
-        match seen {
-            Seen::Enough => {}
-            Seen::AllFalse => return Scanned { seen, passed: i },
-            Seen::OneFree(_) => return Scanned { seen, passed: i },
+    for (passed, &literal) in assumed.iter().enumerate() {
+        let seen = see_under(values, Seen::AllFalse, literal);
+        let ended = Scanned { seen, passed };
+        if ended.decides() {
+            return ended;
         }
-        i += 1;
     }
     Scanned {
         seen: Seen::Enough,
-        passed: i,
+        passed: assumed.len(),
     }
 }
 
 // The first buffer, then the second, then the assumed literals.
-pub fn scan_all(values: Values, first: &[u8], second: &[u8], assumed: &[u8]) -> Scanned
-    requires { ReadableAll first.now second.now assumed.now }
-    ensures { result ≡ scanned values (clauses_of first.now second.now assumed.now) }
+#[tactic(auto, using(crate::proofs::ScanLaws::part_decides, crate::proofs::ScanLaws::part_passes, crate::proofs::ScanLaws::bytes_most, crate::proofs::ScanLaws::units_most))]
+pub fn scan_all(values: &Values, clauses: Clauses) -> Scanned
+    ensures { result ≡ scanned values.now (all_of clauses.entry) }
 {
-    let one = scan(values, first);
+    let one = scan(values, clauses.first);
     if one.decides() {
         return one;
     }
-    let two = scan(values, second).further(one.passed);
+    let two = scan(values, clauses.second).further(one.passed);
     if two.decides() {
         return two;
     }
-    scan_units(values, assumed).further(two.passed)
+    scan_units(values, clauses.assumed).further(two.passed)
 }

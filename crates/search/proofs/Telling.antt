@@ -1,5 +1,5 @@
 -- What is told under a budget: of a search that ends, of visits made before, and of the two sides of a split.
-use mathlib.Core.Path.{◌≡◌, refl, sym, ap, ◌∙◌}
+use mathlib.Core.Path.{◌≡◌, refl, sym, ◌∙◌}
 use mathlib.Core.Logic.{◌≢◌, by_cases}
 use mathlib.Core.List.{List}
 use Prim.Native.Nat.{ℕ, ◌+◌, ◌≤◌, ◌<◌}
@@ -7,26 +7,29 @@ use native.Mathlib.Nat.{add_assoc}
 use native.Mathlib.Decide.{dec_lt}
 use native.Mathlib.Omega.{arith}
 use borrow.Author.Tests.{lt-ltb, le-ltb}
+use Rattle.std.specs.Prelude.{Result, Ok, Err}
+use Rattle.setups.specs.declared.Refusal.{Refusal}
+use Rattle.setups.specs.declared.Refusal.TheVariants.{Spent}
 use Rattle.setups.specs.Search.{SearchResult, Model, None, after, visits_of}
 use Rattle.setups.specs.Searching.{split}
 use Rattle.setups.proofs.Visits.{after_count}
-use Rattle.search.specs.declared.Outcome.TheVariants as outcome
 use Rattle.search.specs.declared.Visited.{Visited}
-use Rattle.search.specs.Told.{without_model, told, either}
+use Rattle.search.specs.declared.Visited.TheVariants as visited
+use Rattle.search.specs.Told.{told, either}
 
 -- ---- one search
 
-pub told_spent : (budget used : ℕ) (r : SearchResult) → budget < used + visits_of r → without_model outcome.Spent budget ≡ told budget used r
+pub told_spent : (budget used : ℕ) (r : SearchResult) → budget < used + visits_of r → Err Spent ≡ told budget used r
 unfolding told
 told_spent budget used (Model m visits) h = rw (lt-ltb budget (used + visits) h)
 told_spent budget used (None visits) h = rw (lt-ltb budget (used + visits) h)
 
-pub told_none : (budget used visits : ℕ) → used + visits ≤ budget → without_model outcome.None (used + visits) ≡ told budget used (None visits)
+pub told_none : (budget used visits : ℕ) → used + visits ≤ budget → Ok (visited.None (used + visits)) ≡ told budget used (None visits)
 unfolding told
 told_none budget used visits h = rw (le-ltb budget (used + visits) h)
 
 pub told_model : (budget used visits : ℕ) (m : List ℕ) → used + visits ≤ budget
-    → record { outcome = outcome.Model; used = used + visits; values = m } ≡ told budget used (Model m visits)
+    → Ok (visited.Model m (used + visits)) ≡ told budget used (Model m visits)
 unfolding told
 told_model budget used visits m h = rw (le-ltb budget (used + visits) h)
 
@@ -35,24 +38,6 @@ pub told_after : (budget used k : ℕ) (r : SearchResult) → told budget (used 
 unfolding told
 told_after budget used k (Model m visits) = rw (add_assoc used k visits)
 told_after budget used k (None visits) = rw (add_assoc used k visits)
-
--- ---- the outcomes differ
-
-pub model_not_none : outcome.Model ≢ outcome.None
-model_not_none e = let z : ◌≡◌ {A = ℕ} 0 1 = cc in omega arith
-
-pub spent_not_none : outcome.Spent ≢ outcome.None
-spent_not_none e = let z : ◌≡◌ {A = ℕ} 0 1 = cc in omega arith
-
-outcome_so : {a b : Visited} → a ≡ b → a.outcome ≡ b.outcome
-outcome_so e = ap (λ (a : Visited). a.outcome) e
-
--- a search that told None has not passed the budget
-none_within : (budget used : ℕ) (r : SearchResult) (a : Visited) → a ≡ told budget used r → a.outcome ≡ outcome.None
-    → used + visits_of r ≤ budget
-none_within budget used r a e n =
-    by_cases (dec_lt budget (used + visits_of r))
-    (λ l. absurd (spent_not_none (outcome_so (told_spent budget used r l ∙ sym e) ∙ n))) (λ k. omega arith)
 
 -- ---- the two sides of a split
 
@@ -66,20 +51,26 @@ split_either (Model m visits) high = refl
 split_either (None visits) high = after_after 1 visits high
 
 -- a first side that tells anything but None tells for both
-pub first_tells : (budget used : ℕ) (low high : SearchResult) (a : Visited) → a ≡ told budget used low → a.outcome ≢ outcome.None
-    → a ≡ told budget used (either low high)
+pub first_tells : (budget used : ℕ) (low high : SearchResult) (a : Result Visited Refusal) → a ≡ told budget used low
+    → ((k : ℕ) → a ≢ Ok (visited.None k)) → a ≡ told budget used (either low high)
 first_tells budget used (Model m visits) high a e n = e
 first_tells budget used (None visits) high a e n =
     by_cases (dec_lt budget (used + visits))
     (λ l.
     e ∙ sym (told_spent budget used (None visits) l) ∙ told_spent budget used (after visits high) (omega (arith, after_count visits high)))
-    (λ k. absurd (n (outcome_so (e ∙ sym (told_none budget used visits (omega arith))))))
+    (λ k. absurd (n (used + visits) (e ∙ sym (told_none budget used visits (omega arith)))))
 
 -- where it tells None, the second side tells for both
-pub second_tells : (budget used : ℕ) (low high : SearchResult) (a b : Visited) → a ≡ told budget used low → a.outcome ≡ outcome.None
-    → b ≡ told budget a.used high → b ≡ told budget used (either low high)
-second_tells budget used (Model m visits) high a b e n h =
-    absurd (model_not_none (outcome_so (told_model budget used visits m (none_within budget used (Model m visits) a e n) ∙ sym e) ∙ n))
-second_tells budget used (None visits) high a b e n h =
-    let low = told_none budget used visits (none_within budget used (None visits) a e n) in
-    h ∙ ap (λ (a : Visited). told budget a.used high) (e ∙ sym low) ∙ told_after budget used visits high
+pub second_tells : (budget used k : ℕ) (low high : SearchResult) (b : Result Visited Refusal) → Ok (visited.None k) ≡ told budget used low
+    → b ≡ told budget k high → b ≡ told budget used (either low high)
+second_tells budget used k (Model m visits) high b e h =
+    by_cases (dec_lt budget (used + visits))
+    (λ l. absurd (let f = e ∙ sym (told_spent budget used (Model m visits) l) in cc))
+    (λ g. absurd (let f = e ∙ sym (told_model budget used visits m (omega arith)) in cc))
+second_tells budget used k (None visits) high b e h =
+    by_cases (dec_lt budget (used + visits))
+    (λ l. absurd (let f = e ∙ sym (told_spent budget used (None visits) l) in cc))
+    (λ g.
+    let f = e ∙ sym (told_none budget used visits (omega arith)) in
+    let same : k ≡ used + visits = cc in
+    h ∙ rw same (told_after budget used visits high))

@@ -8,9 +8,9 @@ use native.Mathlib.Nat.{div-one, div-div-eq-div-mul, div-eq_of_lt, div-eq_of_lt-
 use native.Mathlib.Decide.{ℕ_discrete, dec_lt}
 use native.Mathlib.Omega.{arith}
 use lib.Arith.{bin_ind}
-use lib.Pow.{pow_pos, pow_mono, ones_lt, ones_sub-lt, shl_exact, pow-add}
+use lib.Pow.{pow_pos, pow_mono, ones_lt, ones_sub-lt, pow-add}
 use lib.Bits.{bit_and, bit_or, and_step, or_step, and_shr, or_shr, shifted_half, shifted_even}
-use lib.Dec.{T, lit<}
+use lib.Dec.{T}
 use borrow.Author.Tests.{lt-ltb, le-leb, lt-leb}
 use Rattle.sets.specs.Sets.{digit, In, Within, Share, Joins, Leaves, only}
 use Rattle.sets.specs.Tests.{has}
@@ -407,10 +407,6 @@ pub other_within : (n S R : ℕ) → Within S R → Within (other n R) (other n 
 other_within n S R w i h = other_in n S i (in_below n (other_lt n R) h) (λ k. other_out n R i (w i k) h)
 
 -- ---- the machine's operations on sets
-
--- 1 shifted to place i is what the setting there adds
-pub shifted_one : (width i : ℕ) → i < width → 1 * 2 ^ i % 2 ^ width ≡ 2 ^ i
-shifted_one width i l = shl_exact 1 i width (lit< tt) (omega arith) ∙ (let e : 1 * 2 ^ i ≡ 2 ^ i = omega arith in e)
 
 -- each digit of `and` is the smaller of the two
 pub digit_and : (S R i : ℕ) → digit (bit_and S R) i ≡ min (digit S i) (digit R i)

@@ -41,6 +41,7 @@ pub fn size(set: Set) -> u32
 }
 
 // The set has no two settings. A number and the one before it have nothing in common where the number has one digit 1 only.
+#[tactic(auto, using(crate::proofs::Digits::none_in, crate::proofs::Single::one_only, crate::proofs::Single::only_one))]
 pub fn at_most_one(set: Set) -> bool
     ensures { (result ≡ true) ↔ AtMostOne set }
 {
@@ -51,6 +52,7 @@ pub fn at_most_one(set: Set) -> bool
 }
 
 // The two sets share a setting.
+#[tactic(auto, using(crate::proofs::Digits::and_share))]
 pub fn meets(set: Set, other: Set) -> bool
     ensures { (result ≡ true) ↔ Share set other }
 {
@@ -58,6 +60,7 @@ pub fn meets(set: Set, other: Set) -> bool
 }
 
 // Each setting of `set` is one of `other`.
+#[tactic(auto, using(crate::proofs::Digits::and_within))]
 pub fn within(set: Set, other: Set) -> bool
     ensures { (result ≡ true) ↔ Within set other }
 {
@@ -72,6 +75,7 @@ pub fn has(set: Set, setting: Setting) -> bool
 }
 
 // The set with the setting added.
+#[tactic(auto, using(crate::proofs::Digits::or_joins))]
 pub fn with(set: Set, setting: Setting) -> Set
     ensures { Joins set (only settings_most setting.0) result }
 {

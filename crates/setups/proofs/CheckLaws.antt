@@ -11,14 +11,18 @@ use native.Mathlib.Numerals.{add-one}
 use native.Mathlib.Omega.{arith}
 use borrow.Author.Tests.{ltb-false, lt-ltb, le-ltb, eq-eqb, ne_eqb, le-leb, lt-leb}
 use lib.Dec.{T, eqb, leb, ltb, leb-suc-suc, ltb→lt, lt→ltb}
-use lib.ListN.{length, get_or, drop, drop_of_length-le}
-use Rattle.numbers.proofs.Places.{front}
+use Rattle.std.specs.Prelude.{Some, None}
+use Rattle.std.specs.Option.{is_some}
+use Rattle.std.specs.List.{count_by, slice_get, position, position_or_len}
+use Rattle.std.proofs.lemmas.Option.{slice_get_within, get_or_from_slice_get}
+use Rattle.std.proofs.lemmas.List.Recursion.{is_count_by}
+use lib.ListN.{length, get_or, drop}
 use Rattle.numbers.proofs.Deciding.{T_true, T-equal, bool_case, cond_case}
-use Rattle.setups.specs.Limits.{literals_most}
+use Rattle.setups.specs.Limits.{literals_most, settings_most}
 use Rattle.setups.specs.Clauses.{push, clauses}
 use Rattle.setups.specs.Setups.{apiece, settings}
 use Rattle.setups.specs.Refusals.{first_place, offends, ended, some_long, long}
-use Rattle.setups.specs.Code.Checks.{tail_place, long_place, setting_place}
+use Rattle.setups.specs.Code.Checks.{place_in, tail_place, long_place, setting_place}
 use Rattle.setups.proofs.Truth.{literal_goes_on, first_clause_lem}
 
 -- ---- a walk over a buffer
@@ -28,53 +32,10 @@ pub record WalkedTo (rest : List ℕ → ℕ) (bytes : List ℕ) (whole so_far i
   pub inside : i ≤ length bytes
   pub gives : whole ≡ so_far + rest (drop i bytes)
 
-pub walk_starts : (rest : List ℕ → ℕ) (bytes : List ℕ) → WalkedTo rest bytes (rest bytes) 0 0
-walk_starts rest bytes = record { inside = zero-le; gives = omega arith }
-
-module _ {rest : List ℕ → ℕ} {bytes : List ℕ} {whole so_far i : ℕ} (at : WalkedTo rest bytes whole so_far i) where
-  -- the byte at i, and those after it
-  here : i < length bytes → rest (drop i bytes) ≡ rest (get_or bytes i 0 ∷ drop (i + 1) bytes)
-  here l = ap rest (front bytes i l)
-
-  -- the walk goes on past a byte that counts one
-  pub walk_counts : (next : List ℕ → ℕ) → i < length bytes → ((tail : List ℕ) → rest (get_or bytes i 0 ∷ tail) ≡ suc (next tail))
-      → WalkedTo next bytes whole (so_far + 1) (i + 1)
-  walk_counts next l step = record { inside = omega arith; gives = omega (arith, at.gives, here l, step (drop (i + 1) bytes)) }
-
-  -- or past one that counts nothing
-  pub walk_passes : (next : List ℕ → ℕ) → i < length bytes → ((tail : List ℕ) → rest (get_or bytes i 0 ∷ tail) ≡ next tail)
-      → WalkedTo next bytes whole so_far (i + 1)
-  walk_passes next l step = record { inside = omega arith; gives = omega (arith, at.gives, here l, step (drop (i + 1) bytes)) }
-
-  -- or stops at one where nothing is left to find
-  pub walk_stops : i < length bytes → ((tail : List ℕ) → rest (get_or bytes i 0 ∷ tail) ≡ 0) → so_far ≡ whole
-  walk_stops l step = omega (arith, at.gives, here l, step (drop (i + 1) bytes))
-
-  -- or comes to the end
-  pub walk_ends : length bytes ≤ i → rest [] ≡ 0 → so_far ≡ whole
-  walk_ends l none = omega (arith, at.gives, ap rest (drop_of_length-le bytes l), none)
-
 -- ---- the first byte that offends, by any test
-
-first_stops : (test : ℕ → Bool) (b : ℕ) → test b ≡ true → (tail : List ℕ) → first_place test (b ∷ tail) ≡ 0
-first_stops test b e tail = rw e
 
 first_passes : (test : ℕ → Bool) (b : ℕ) → test b ≡ false → (tail : List ℕ) → first_place test (b ∷ tail) ≡ suc (first_place test tail)
 first_passes test b e tail = rw e
-
--- the walk of both literal checks, at place i
-abbrev pub FirstFrom : (ℕ → Bool) → List ℕ → ℕ → Type 0
-FirstFrom test bytes i = WalkedTo (first_place test) bytes (first_place test bytes) i i
-
--- it stops at a byte that offends
-pub first_found : (test : ℕ → Bool) (bytes : List ℕ) (i : ℕ) → FirstFrom test bytes i → i < length bytes
-    → test (get_or bytes i 0) ≡ true → i ≡ first_place test bytes
-first_found test bytes i at l e = walk_stops at l (first_stops test (get_or bytes i 0) e)
-
--- and goes on past any other
-pub first_on : (test : ℕ → Bool) (bytes : List ℕ) (i : ℕ) → FirstFrom test bytes i → i < length bytes
-    → test (get_or bytes i 0) ≡ false → FirstFrom test bytes (i + 1)
-first_on test bytes i at l e = walk_counts at (first_place test) l (first_passes test (get_or bytes i 0) e)
 
 -- while no byte before place i offends, the bytes from there on give the place
 pub first_from : (test : ℕ → Bool) (bytes : List ℕ) (i : ℕ) → i ≤ length bytes → ((j : ℕ) → j < i → test (get_or bytes j 0) ≡ false)
@@ -135,19 +96,21 @@ ended_last (b ∷ []) (suc last) e = absurd (suc-ne-zero last (suc_inj e))
 ended_last (b ∷ c ∷ bytes) zero e = absurd (suc-ne-zero (length bytes) (sym (suc_inj e)))
 ended_last (b ∷ c ∷ bytes) (suc last) e = ended_last (c ∷ bytes) last (suc_inj e)
 
--- the three ways of the code: no byte, a last byte 0, and another last byte
-pub tail_none : (bytes : List ℕ) → length bytes ≡ 0 → tail_place bytes ≡ 0
-tail_none [] e = refl
-tail_none (b ∷ bytes) e = absurd (suc-ne-zero (length bytes) e)
+tail_at : (bytes : List ℕ) (b : ℕ) → slice_get bytes (length bytes - 1) ≡ Some b → ended bytes ≡ eqb b 0
+tail_at bytes b e =
+    let l : length bytes - 1 < length bytes = slice_get_within bytes (length bytes - 1) b e in
+    ended_last bytes (length bytes - 1) (omega arith) ∙ ap (λ (x : ℕ). eqb x 0) (get_or_from_slice_get bytes (length bytes - 1) b 0 e)
 
-pub tail_fine : (bytes : List ℕ) → ended bytes ≡ true → tail_place bytes ≡ length bytes
-tail_fine bytes e = rw e
+-- a last byte that isn't 0 offends, and 0 doesn't
+pub tail_bad : (bytes : List ℕ) (b : ℕ) → slice_get bytes (length bytes - 1) ≡ Some b → b ≢ 0
+    → Some (length bytes - 1) ≡ place_in bytes (tail_place bytes)
+tail_bad bytes b e h = rw (tail_at bytes b e ∙ ne_eqb b 0 h, lt-ltb (length bytes - 1) (length bytes) (slice_get_within bytes (length bytes - 1) b e))
 
-pub tail_bad : (bytes : List ℕ) → ended bytes ≡ false → tail_place bytes ≡ length bytes - 1
-tail_bad bytes e = rw e
+pub tail_fine : (bytes : List ℕ) (b : ℕ) → slice_get bytes (length bytes - 1) ≡ Some b → b ≡ 0 → None ≡ place_in bytes (tail_place bytes)
+tail_fine bytes b e h = rw (tail_at bytes b e ∙ eq-eqb b 0 h, le-ltb (length bytes) (length bytes) (le_refl (length bytes)))
 
 -- the place is below the length exactly where the bytes aren't ended
-pub tail_test : (bytes : List ℕ) → ltb (tail_place bytes) (length bytes) ≡ not (ended bytes)
+tail_test : (bytes : List ℕ) → ltb (tail_place bytes) (length bytes) ≡ not (ended bytes)
 tail_test [] = refl
 tail_test (b ∷ bytes) =
     let n = suc (length bytes) in
@@ -155,10 +118,6 @@ tail_test (b ∷ bytes) =
     (λ e. le-ltb n n (le_refl n)) (λ e. lt-ltb (n - 1) n (omega arith))
 
 -- ---- Long: the walk
-
--- past the end of a clause: no literal is counted after it
-pub long_end : (run next b : ℕ) → b ≡ 0 → next ≡ 0 → (tail : List ℕ) → long_place run (b ∷ tail) ≡ suc (long_place next tail)
-long_end run next b e n tail = simp (eq-eqb b 0 e, n)
 
 -- past a literal, which counts
 pub long_literal : (run next b : ℕ) → b ≢ 0 → run < literals_most → next ≡ run + 1 → (tail : List ℕ)
@@ -225,7 +184,7 @@ long_after_lem run (suc b ∷ d ∷ bytes) t l =
     (lt-ltb 0 (suc (suc (length bytes))) (zero-lt-suc _) ∙ sym (long_over run (suc b) first.0 first.1 most)))
 
 -- for ended bytes the place is below the length exactly where a clause is too long
-pub long_test : (bytes : List ℕ) → ended bytes ≡ true → ltb (long_place 0 bytes) (length bytes) ≡ long bytes
+long_test : (bytes : List ℕ) → ended bytes ≡ true → ltb (long_place 0 bytes) (length bytes) ≡ long bytes
 long_test bytes e = long_after_lem 0 bytes ((T_true (ended bytes)).1 e) zero-le ∙ long_whole (clauses bytes)
 
 -- ---- how many clauses, and how many settings
@@ -243,6 +202,14 @@ pub clauses_literal : (b : ℕ) → b ≢ 0 → (tail : List ℕ) → length (cl
 clauses_literal zero h tail = absurd (h refl)
 clauses_literal (suc b) h tail = push_length (suc b) (clauses tail)
 
+-- so that there are as many as zeros
+pub clauses_counted : (bytes : List ℕ) → count_by (λ b. eqb b 0) bytes ≡ length (clauses bytes)
+clauses_counted bytes = sym (is_count_by (λ tail. length (clauses tail)) (λ b. eqb b 0) refl each bytes)
+  where
+    each : (b : ℕ) (tail : List ℕ) → length (clauses (b ∷ tail)) ≡ cond (eqb b 0) (1 + length (clauses tail)) (length (clauses tail))
+    each zero tail = omega arith
+    each (suc b) tail = rw (ne_eqb (suc b) 0 (suc-ne-zero b)) (clauses_literal (suc b) (suc-ne-zero b) tail)
+
 apiece_length : (cs : List (List ℕ)) → length (apiece cs) ≡ length cs
 apiece_length [] = refl
 apiece_length (clause ∷ rest) = ap suc (apiece_length rest)
@@ -259,16 +226,6 @@ pub setting_literal : (left next b : ℕ) → b ≢ 0 → next ≡ left → (tai
 setting_literal zero next b h n tail = simp (ne_eqb b 0 h, n)
 setting_literal (suc left) next b h n tail = simp (ne_eqb b 0 h, n)
 
--- past the end of a setting, with one less left to pass
-pub setting_end : (left next b : ℕ) → b ≡ 0 → left ≢ 0 → next ≡ left - 1 → (tail : List ℕ)
-    → setting_place left (b ∷ tail) ≡ suc (setting_place next tail)
-setting_end zero next b e h n tail = absurd (h refl)
-setting_end (suc left) next b e h n tail = let m : next ≡ left = omega arith in simp (eq-eqb b 0 e, m)
-
--- to the end of a setting when none is left to pass
-pub setting_stops : (left b : ℕ) → b ≡ 0 → left ≡ 0 → (tail : List ℕ) → setting_place left (b ∷ tail) ≡ 0
-setting_stops left b e n tail = rw (e, n)
-
 -- the place is below the length exactly where there are more settings than those to pass
 pub setting_iff : (left : ℕ) (soft : List ℕ) → (setting_place left soft < length soft) ↔ (left < length (settings soft))
 setting_iff left [] = ((λ l. absurd (not-suc-le-zero l)), λ l. absurd (not-suc-le-zero l))
@@ -282,8 +239,35 @@ setting_iff (suc left) (zero ∷ soft) =
     let rest = setting_iff left soft in
     ((λ l. suc-le-suc (rest.0 (le_of_suc-le-suc l))), λ l. suc-le-suc (rest.1 (le_of_suc-le-suc l)))
 
-pub setting_test : (left : ℕ) (soft : List ℕ) → ltb (setting_place left soft) (length soft) ≡ ltb left (length (settings soft))
+setting_test : (left : ℕ) (soft : List ℕ) → ltb (setting_place left soft) (length soft) ≡ ltb left (length (settings soft))
 setting_test left soft =
     T-equal (ltb (setting_place left soft) (length soft)) (ltb left (length (settings soft)))
     (Iff.trans (T-below (setting_place left soft) (length soft))
     (Iff.trans (setting_iff left soft) (Iff.symm (T-below left (length (settings soft))))))
+
+-- ---- what each check answers: a place exactly where its test says so
+
+some_in : (bytes : List ℕ) (place : ℕ) → is_some (place_in bytes place) ≡ ltb place (length bytes)
+some_in bytes place = bool_case (λ q. is_some (cond q (Some place) None) ≡ q) (ltb place (length bytes)) (λ e. refl) (λ e. refl)
+
+-- the place that the literal checks answer is the first that offends
+pub first_position : (test : ℕ → Bool) (bytes : List ℕ) → position test bytes ≡ place_in bytes (first_place test bytes)
+first_position test bytes = ap (place_in bytes) (first bytes)
+  where
+    first : (tail : List ℕ) → position_or_len test tail ≡ first_place test tail
+    first [] = refl
+    first (b ∷ tail) =
+        bool_case (λ q. cond (not q) (1 + position_or_len test tail) 0 ≡ cond q 0 (suc (first_place test tail))) (test b)
+        (λ e. refl) (λ e. rw (first tail) (omega arith))
+
+pub literal_found : (test : ℕ → Bool) (bytes : List ℕ) → is_some (position test bytes) ≡ offends test bytes
+literal_found test bytes = ap is_some (first_position test bytes) ∙ some_in bytes (first_place test bytes)
+
+pub tail_found : (bytes : List ℕ) → is_some (place_in bytes (tail_place bytes)) ≡ not (ended bytes)
+tail_found bytes = some_in bytes (tail_place bytes) ∙ tail_test bytes
+
+pub long_found : (bytes : List ℕ) → ended bytes ≡ true → is_some (place_in bytes (long_place 0 bytes)) ≡ long bytes
+long_found bytes e = some_in bytes (long_place 0 bytes) ∙ long_test bytes e
+
+pub softs_found : (soft : List ℕ) → is_some (place_in soft (setting_place settings_most soft)) ≡ ltb settings_most (length (settings soft))
+softs_found soft = some_in soft (setting_place settings_most soft) ∙ setting_test settings_most soft

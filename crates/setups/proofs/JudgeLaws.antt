@@ -1,64 +1,25 @@
 -- What is judged of a setup's clauses: a test over two buffers, and what is known where no refusal is given.
-use mathlib.Core.Path.{◌≡◌, sym, ap, ◌∙◌}
-use mathlib.Core.Bool.{Bool, true, false, not, ◌||◌}
+use mathlib.Core.Path.{◌≡◌}
+use mathlib.Core.Bool.{true, false, not, ◌||◌}
 use mathlib.Core.List.{List}
 use Prim.Native.Nat.{ℕ, ◌≤◌, ◌<◌, zero-le}
 use native.Mathlib.Omega.{arith}
-use borrow.Author.Tests.{lt-ltb, le-ltb, ltb-false, leb-false, not-false}
+use borrow.Author.Tests.{ltb-false, leb-false, not-false}
 use lib.Dec.{ltb, leb}
 use lib.ListN.{length}
 use Rattle.numbers.proofs.Deciding.{neither}
-use Rattle.setups.specs.declared.Refusal.{Refusal}
 use Rattle.setups.specs.declared.Refusal.TheVariants.{Vars, Size, Work, Literal, Tail, Long, Softs}
 use Rattle.setups.specs.Limits.{variables_most, hard_bytes_most, soft_bytes_most, sets_most, settings_most}
 use Rattle.setups.specs.Setups.{settings}
-use Rattle.setups.specs.Refusals.{number_of, no_clause_byte, offends, ended, long, clauses_refusal}
-use Rattle.setups.specs.declared.judging.Judged.{Judged}
-use Rattle.setups.specs.declared.judging.Judged.TheVariants.{Taken, Unfit}
-use Rattle.setups.specs.Code.Checks.{Judges}
+use Rattle.setups.specs.Refusals.{no_clause_byte, offends, ended, long, clauses_refusal}
 use Rattle.setups.specs.List.{list_refusal}
 use Rattle.setups.proofs.Refusals.{check_none, check_most}
-
--- ---- a test over two buffers
-
--- A check over one buffer finds `place`, which is below the length exactly where the test `a` says so: one of two buffers offends
--- where the first does,
-pub either_first : {found place size : ℕ} {a : Bool} (b : Bool) → found < size → found ≡ place → ltb place size ≡ a → ltb found size ≡ (a || b)
-either_first {found} {place} {size} {a} b l e t =
-    let s : ltb found size ≡ a = rw e t in
-    s ∙ rw (sym s ∙ lt-ltb found size l)
-
--- and else where the second does.
-pub either_second : {found place size found' place' : ℕ} (size' : ℕ) {a b : Bool} → size ≤ found → found ≡ place → ltb place size ≡ a
-    → found' ≡ place' → ltb place' size' ≡ b → ltb found' size' ≡ (a || b)
-either_second {found} {place} {size} {found'} {place'} size' {a} {b} l e t f u =
-    let s : ltb found size ≡ a = rw e t in
-    let v : ltb found' size' ≡ b = rw f u in
-    v ∙ rw (sym s ∙ le-ltb found size l)
 
 -- both buffers are ended where Tail is not given
 pub both_ended : (hard soft : List ℕ) → (not (ended hard) || not (ended soft)) ≡ false → (ended hard ≡ true) × (ended soft ≡ true)
 both_ended hard soft e =
     let each = neither (not (ended hard)) (not (ended soft)) e in
     (not-false (ended hard) each.0, not-false (ended soft) each.1)
-
--- ---- what is judged
-
-module _ {n : ℕ} {hard soft : List ℕ} where
-  -- a refusal
-  pub unfit : (refusal : Refusal) → ((rest : ℕ) → number_of refusal ≡ clauses_refusal n hard soft rest) → Judges n hard soft (Unfit refusal)
-  unfit refusal h = record { first = h; counts = λ k e. absurd (never k e) }
-    where
-      never : (k : ℕ) → ¬ (Unfit refusal ≡ Taken k)
-      never k e = let z : ◌≡◌ {A = ℕ} 0 1 = cc in omega arith
-
-  -- or none, and the number of settings
-  pub taken : (count : ℕ) → ((rest : ℕ) → rest ≡ clauses_refusal n hard soft rest) → count ≡ length (settings soft) → Judges n hard soft (Taken count)
-  taken count h e = record { first = h; counts = λ k same. ap number (sym same) ∙ e }
-    where
-      number : Judged → ℕ
-      number (Taken k) = k
-      number (Unfit refusal) = 0
 
 -- ---- no refusal is given
 

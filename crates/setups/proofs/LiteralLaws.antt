@@ -6,7 +6,7 @@ use mathlib.Core.List.{List, [], ◌∷◌}
 use Prim.Native.Nat.{ℕ, zero, suc, ◌%◌, ◌<◌, suc-le-suc}
 use native.Mathlib.Nat.{zero-lt-suc, suc-ne-zero}
 use native.Mathlib.Omega.{arith}
-use borrow.Author.Tests.{eqb-false, ltb-false, eq-eqb, ne_eqb}
+use borrow.Author.Tests.{eqb-false, ltb-false, ne_eqb}
 use lib.Dec.{eqb, ltb}
 use lib.ListN.{length, get_or}
 use Rattle.sets.specs.Lists.{Among}
@@ -23,11 +23,7 @@ literal n b e =
     let h = neither (eqb (b % 128) 0) (ltb n (b % 128)) e in
     record { some = omega (arith, eqb-false (b % 128) 0 h.0); most = ltb-false n (b % 128) h.1 }
 
--- in clauses a 0 is no offence
-pub end_fine : (n b : ℕ) → b ≡ 0 → no_clause_byte n b ≡ false
-end_fine n b e = simp (eq-eqb b 0 e)
-
--- and any other byte is to be a literal
+-- a byte of clauses that is no end is to be a literal
 pub byte_literal : (n b : ℕ) → b ≢ 0 → no_clause_byte n b ≡ no_literal n b
 byte_literal n b h = simp (ne_eqb b 0 h)
 

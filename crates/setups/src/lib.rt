@@ -4,6 +4,7 @@
 
 mod checks;
 mod judging;
+mod taken;
 
 ghost use Rattle.std.specs.Prelude.{◌≡◌};
 ghost use Rattle.setups.specs.Refusals.{number_of};
@@ -12,7 +13,8 @@ pub use checks::{
     clause_count, first_bad_assumed, first_bad_literal, long_place, settings_count, softs_place,
     tail_place,
 };
-pub use judging::{Judged, judge_clauses};
+pub use judging::judge_clauses;
+pub use taken::TakenSetup;
 
 // The limits of document 01, "Setups"; the hard bytes' is also that of an ask's clause bytes. The most variables are
 // numbers::VARIABLES_MOST, the most settings sets::SETTINGS_MOST.
@@ -51,22 +53,24 @@ pub const UNMET: u8 = 0x80;
 pub const NO_MODEL: u8 = 0x81;
 
 // A refusal's number.
-pub fn refusal_number(refusal: Refusal) -> u8
-    ensures { result ≡ number_of refusal }
-{
-    match refusal {
-        Refusal::Vars => 1,
-        Refusal::Size => 2,
-        Refusal::Work => 3,
-        Refusal::Literal => 4,
-        Refusal::Tail => 5,
-        Refusal::Long => 6,
-        Refusal::Softs => 7,
-        Refusal::TooMany => 8,
-        Refusal::List => 9,
-        Refusal::Spent => 10,
-        Refusal::Frame => 11,
-        Refusal::Room => 12,
+impl From<Refusal> for u8 {
+    ghost from_gives = { λ refusal number. number ≡ number_of refusal };
+
+    fn from(refusal: Refusal) -> u8 {
+        match refusal {
+            Refusal::Vars => 1,
+            Refusal::Size => 2,
+            Refusal::Work => 3,
+            Refusal::Literal => 4,
+            Refusal::Tail => 5,
+            Refusal::Long => 6,
+            Refusal::Softs => 7,
+            Refusal::TooMany => 8,
+            Refusal::List => 9,
+            Refusal::Spent => 10,
+            Refusal::Frame => 11,
+            Refusal::Room => 12,
+        }
     }
 }
 

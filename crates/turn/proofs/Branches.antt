@@ -8,13 +8,13 @@ use Rattle.sets.specs.Sets.{In, Within, Share}
 use Rattle.numbers.proofs.Deciding.{stable}
 use Rattle.sets.proofs.Digits.{none_in, within_self, missing, share_dec, out_in, out_within}
 use Rattle.members.specs.Members.{Hits, Alone, Own, Waits}
-use Rattle.turn.specs.Code.Branches.{Branch, TurnsOn}
+use Rattle.turn.specs.Code.Branches.{Holds, TurnsOn}
 
 module _ {members : List ℕ} {taken left : ℕ} where
   -- ---- empty branches
 
   -- a taken setting has no member of its own: each set of the branch could do without it
-  not_own : (i : ℕ) → In i taken → ¬ Own members taken i → (S : ℕ) → ¬ Branch members taken left S
+  not_own : (i : ℕ) → In i taken → ¬ Own members taken i → (S : ℕ) → ¬ Holds members taken left S
   not_own i t q S b = b.smallest.1 (S - 2 ^ i) (out_within i S h) (λ e. ((out_in i S i h).0 (rw e h)).1 refl) each
     where
       h : In i S
@@ -37,13 +37,13 @@ module _ {members : List ℕ} {taken left : ℕ} where
               }
 
   -- so the branch is empty where the settings with a member of their own are not the taken ones
-  pub own_empty : (own : ℕ) → ((i : ℕ) → In i own ↔ Own members taken i) → own ≢ taken → (S : ℕ) → ¬ Branch members taken left S
+  pub own_empty : (own : ℕ) → ((i : ℕ) → In i own ↔ Own members taken i) → own ≢ taken → (S : ℕ) → ¬ Holds members taken left S
   own_empty own says ne =
       let lack = missing own taken (λ i h. ((says i).0 h).2.taken) ne in
       not_own lack.0 lack.1 (λ o. lack.2 ((says lack.0).1 o))
 
   -- a member can't be hit any more
-  pub lost_empty : (M : ℕ) × Waits members taken left M 0 → (S : ℕ) → ¬ Branch members taken left S
+  pub lost_empty : (M : ℕ) × Waits members taken left M 0 → (S : ℕ) → ¬ Holds members taken left S
   lost_empty lost S b =
       let M = lost.0 in
       let waits = lost.1 in
@@ -53,10 +53,10 @@ module _ {members : List ℕ} {taken left : ℕ} where
   -- ---- a branch of one set
 
   -- every member is hit, and every taken setting has a member of its own: the taken settings are the one set of the branch
-  pub hit_one : (own : ℕ) → ((i : ℕ) → In i own ↔ Own members taken i) → own ≡ taken → Hits members taken → (S : ℕ) → Branch members taken left S ↔ (S ≡ taken)
-  hit_one own says e hits S = (to, λ k. subst (Branch members taken left) (sym k) itself)
+  pub hit_one : (own : ℕ) → ((i : ℕ) → In i own ↔ Own members taken i) → own ≡ taken → Hits members taken → (S : ℕ) → Holds members taken left S ↔ (S ≡ taken)
+  hit_one own says e hits S = (to, λ k. subst (Holds members taken left) (sym k) itself)
     where
-      to : Branch members taken left S → S ≡ taken
+      to : Holds members taken left S → S ≡ taken
       to b = stable (ℕ_discrete S taken) (λ ne. b.smallest.1 taken b.has (λ k. ne (sym k)) hits)
 
       less : (R : ℕ) → Within R taken → R ≢ taken → ¬ Hits members R
@@ -66,7 +66,7 @@ module _ {members : List ℕ} {taken left : ℕ} where
           let s = h o.0 o.1 in
           lack.2 (rw (o.2.only s.0 s.2 (w s.0 s.1)) at s.1)
 
-      itself : Branch members taken left taken
+      itself : Holds members taken left taken
       itself = record { smallest = (hits, less); has = within_self taken; rest = λ i h. inl h }
 
   -- ---- a branch that turns on some settings

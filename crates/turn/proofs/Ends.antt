@@ -1,45 +1,43 @@
 -- From the whole branch to the turn: where the search begins, and what it gives out at its end.
 use mathlib.Core.Path.{◌≡◌, subst, ◌∙◌}
-use mathlib.Core.Logic.{inr, ⊎_elim, ◌↔◌}
-use mathlib.Core.List.{List, ◌++◌}
+use mathlib.Core.Logic.{◌≢◌, ◌⊎◌, inr, ⊎_elim, ◌↔◌}
+use mathlib.Core.List.{List, []}
 use Prim.Native.Nat.{ℕ, ◌-◌, ◌^◌, ◌≤◌, ◌<◌}
 use native.Mathlib.Omega.{arith}
-use lib.ListN.{length, take, drop, replicate}
+use lib.ListN.{length}
 use lib.Seq.{length-take-le}
 use lib.Pow.{pow_pos}
 use borrow.Author.Tests.{lt-ltb, le-ltb, ne_eqb}
+use Rattle.std.specs.Prelude.{Ok, Err}
 use Rattle.sets.specs.Sets.{Within}
 use Rattle.sets.specs.Lists.{Among}
-use Rattle.sets.specs.Turns.{SmallestCross, Turned}
+use Rattle.sets.specs.Turns.{SmallestCross}
 use Rattle.sets.proofs.Digits.{within_le, none_in, none_within, in_below, full_in}
 use Rattle.sets.proofs.Lists.{rising_shorter}
 use Rattle.sets.proofs.Turning.{turn_exists}
-use Rattle.setups.specs.Refusals.{number_of}
-use Rattle.setups.specs.GivenOut.{ListResult}
+use Rattle.setups.specs.GivenOut.{without_list}
+use Rattle.setups.specs.Written.{written}
 use Rattle.setups.specs.Turn.{turn_refusal, TurnGives}
-use Rattle.setups.specs.declared.Refusal.{Refusal}
 use Rattle.setups.specs.declared.Refusal.TheVariants.{TooMany}
-use Rattle.setups.proofs.Refusals.{refused_number}
-use Rattle.turn.specs.declared.Turning.TheVariants.{Listed, Refused}
-use Rattle.turn.specs.Code.Branches.{Branch}
-use Rattle.turn.specs.Code.Growing.{Grown}
+use Rattle.turn.specs.declared.found.Found.{Found}
+use Rattle.turn.specs.Code.Branches.{Holds}
+use Rattle.turn.specs.Code.Growing.{sets_of, room_of, Added, Overfull}
 use Rattle.turn.specs.Code.Giving.{GivesTurn}
-use Rattle.turn.specs.Turning.{answered}
 use Rattle.turn.proofs.Promise.{turns_exist}
 
 -- ---- the beginning
 
 -- with nothing taken and n settings left the branch holds the smallest sets across the members
-whole_branch : (n : ℕ) (members : List ℕ) (S : ℕ) → Branch members 0 (2 ^ n - 1) S ↔ SmallestCross n (λ M. Among M members) S
+whole_branch : (n : ℕ) (members : List ℕ) (S : ℕ) → Holds members 0 (2 ^ n - 1) S ↔ SmallestCross n (λ M. Among M members) S
 whole_branch n members S = (to, from)
   where
-    to : Branch members 0 (2 ^ n - 1) S → SmallestCross n (λ M. Among M members) S
+    to : Holds members 0 (2 ^ n - 1) S → SmallestCross n (λ M. Among M members) S
     to b =
         let w : Within S (2 ^ n - 1) = λ i h. ⊎_elim (λ z. absurd (none_in i z)) (λ k. k) (b.rest i h) in
         let below : S < 2 ^ n = omega (arith, within_le S (2 ^ n - 1) w, pow_pos n) in
         (record { below = below; each = b.smallest.0 }, λ R v ne c. b.smallest.1 R v ne c.each)
 
-    from : SmallestCross n (λ M. Among M members) S → Branch members 0 (2 ^ n - 1) S
+    from : SmallestCross n (λ M. Among M members) S → Holds members 0 (2 ^ n - 1) S
     from c = record {
       smallest = (c.0.each, λ R v ne h. c.1 R v ne (record { below = let l = c.0.below in omega (arith, within_le R S v); each = h }));
       has = none_within S;
@@ -48,45 +46,40 @@ whole_branch n members S = (to, from)
 
 -- ---- the end
 
-module _ (n : ℕ) {given : List ℕ} (list : List ℕ) {scratch after : List ℕ} {found : ℕ} (grown : Grown (Branch given 0 (2 ^ n - 1)) 0 (length list) scratch found after)
-    (same : length after ≡ length scratch) (work : length list < length scratch) where
-  fits : found ≤ length after
-  fits = let m = grown.most in omega arith
+-- what is found besides the sets of before, none, is a smallest set across the given ones
+cross : (n : ℕ) (given before : List ℕ) → before ≡ [] → (S : ℕ) → Among S before ⊎ Holds given 0 (2 ^ n - 1) S → SmallestCross n (λ M. Among M given) S
+cross n given before none S h = (whole_branch n given S).0 (⊎_elim (λ k. absurd (rw none at k)) (λ b. b) h)
 
-  -- what was found, all of it unless it is more than the room
-  found_cross : (S : ℕ) → Among S (take found after) → SmallestCross n (λ M. Among M given) S
-  found_cross S h = (whole_branch n given S).0 (⊎_elim (λ k. absurd k) (λ b. b) (grown.sound S h))
-
-  found_turned : found ≤ length list → Turned n given (take found after)
-  found_turned l = record { rising = grown.rising; exact = λ S. (found_cross S, λ c. grown.whole l S ((whole_branch n given S).1 c)) }
-
-  -- it fits, and is given out
-  pub gives_list : {list_after scratch_after : List ℕ} → found ≤ length list → list_after ≡ take found after ++ drop found list
-      → scratch_after ≡ replicate (length after) 0 → GivesTurn n given list scratch (answered (Listed found) list_after scratch_after)
-  gives_list l e z = record {
-    turned = take found after;
-    exact = found_turned l;
-    says = rw (e, z, same, length-take-le found after fits, le-ltb (length list) found l);
+module _ (n : ℕ) {given list : List ℕ} {before : Found} (none : sets_of before ≡ []) (room : room_of before ≡ length list) where
+  -- all of it is found, and copied to the list
+  pub gives_list : {after : Found} {list_after : List ℕ} → Added (Holds given 0 (2 ^ n - 1)) before after
+      → list_after ≡ written (sets_of after) list → GivesTurn n given list (Ok (length (sets_of after))) list_after
+  gives_list {after} added e = record {
+    turned = sets_of after;
+    exact = record { rising = after.rising; exact = λ S. ((λ h. cross n given (sets_of before) none S (added.sound S h)), λ c. added.whole S ((whole_branch n given S).1 c)) };
+    says = λ scratch. rw (e, le-ltb (length list) (length (sets_of after)) fits);
   }
+    where
+      fits : length (sets_of after) ≤ length list
+      fits =
+          let f = after.few in
+          let r = added.room in
+          omega (arith, length-take-le after.filled after.places.now f)
 
-  -- the turn is longer than the room
-  pub gives_too_many : {scratch_after : List ℕ} → length list < found → scratch_after ≡ replicate (length after) 0
-      → GivesTurn n given list scratch (answered (Refused TooMany) list scratch_after)
-  gives_too_many l z =
+  -- there is more of it than places
+  pub gives_too_many : Overfull (Holds given 0 (2 ^ n - 1)) before → GivesTurn n given list (Err TooMany) list
+  gives_too_many over =
       let t = turn_exists n given in
-      let longer : found ≤ length t.0 = rw (length-take-le found after fits) at (rising_shorter (take found after) t.0 grown.rising t.1.rising (λ S h. (t.1.exact S).1 (found_cross S h))) in
-      record { turned = t.0; exact = t.1; says = rw (z, same, lt-ltb (length list) (length t.0) (omega arith)) }
+      let longer : length over.sets ≤ length t.0 = rising_shorter over.sets t.0 over.rising t.1.rising (λ S h. (t.1.exact S).1 (cross n given (sets_of before) none S (over.sound S h))) in
+      let more = over.more in
+      record { turned = t.0; exact = t.1; says = λ scratch. rw (lt-ltb (length list) (length t.0) (omega arith)) }
 
 -- ---- the checks before it
 
 module _ (n : ℕ) (given list scratch : List ℕ) where
   -- one of them refuses: nothing is written
-  pub turn_refused : (refusal : Refusal) → turn_refusal n given (length list) (length scratch) ≡ number_of refusal
-      → TurnGives n given list scratch (answered (Refused refusal) list scratch)
-  turn_refused refusal e =
+  pub turn_refused : (number : ℕ) → turn_refusal n given (length list) (length scratch) ≡ number → number ≢ 0
+      → TurnGives n given list scratch (without_list number list scratch)
+  turn_refused number e some =
       let p = (turns_exist n given list scratch).1 in
-      subst (TurnGives n given list scratch) (p.says ∙ rw (e, ne_eqb (number_of refusal) 0 (refused_number refusal))) p
-
-  -- all pass
-  pub turn_taken : (r : ListResult) → turn_refusal n given (length list) (length scratch) ≡ 0 → GivesTurn n given list scratch r → TurnGives n given list scratch r
-  turn_taken r e g = record { turned = g.turned; exact = g.exact; says = rw e g.says }
+      subst (TurnGives n given list scratch) (p.says ∙ rw (e, ne_eqb number 0 some)) p

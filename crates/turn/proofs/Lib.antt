@@ -4,7 +4,7 @@
 mod Placing
 -- the branches of the search
 mod Branches
--- the scratch as it grows
+-- the sets found as they grow
 mod Growth
 -- how a branch parts in two
 mod Splitting

@@ -1,14 +1,23 @@
--- A set put into a rising list: the list rises again and has that set more; and how the loop of `insert` does it.
+-- A set put into a rising list: the list rises again and has that set more; and how `insert` does it.
 use mathlib.Core.Path.{◌≡◌, refl, sym, ap, ◌∙◌}
 use mathlib.Core.Logic.{◌⊎◌, inl, inr, ⊎_elim, ◌↔◌, by_cases}
+use mathlib.Core.Bool.{true, false}
 use mathlib.Core.List.{List, [], ◌∷◌, ◌++◌}
-use Prim.Native.Nat.{ℕ, suc, ◌+◌, ◌-◌, ◌≤◌, ◌<◌, min, max}
+use Prim.Native.Nat.{ℕ, zero, suc, ◌+◌, ◌-◌, ◌≤◌, ◌<◌, min, max}
+use native.Mathlib.Nat.{not-suc-le-zero}
 use native.Mathlib.Decide.{dec_lt}
 use native.Mathlib.Omega.{arith}
-use lib.ListN.{length, get_or, set, take, drop, length-append}
-use lib.Seq.{append_snoc, get_or_at}
-use Rattle.numbers.proofs.Places.{front, fill_next}
+use lib.Dec.{ltb}
+use lib.ListN.{length, get_or, set, take, drop, length-set, length-append, length-take, length-drop}
+use lib.Seq.{length-paste, take-take, take_at, drop_at, length-take-le}
+use borrow.Author.Tests.{ltb-true, ltb-false, lt-ltb}
+use Rattle.std.specs.List.{insert}
+use Rattle.std.specs.List.Sorted.{IsPartitionedBy, IsPartitionPoint}
+use Rattle.std.proofs.lemmas.Slice.{between_is, put_mid-paste, take-put_mid}
 use Rattle.sets.specs.Lists.{Among, Rising}
+use Rattle.std.proofs.lemmas.List.{get_or_default, take_more_set, take-set-le, drop-append-le}
+use borrow.Rule.Slice.PartMut.{put_mid}
+use Rattle.sets.proofs.Lists.{place_listed, listed_place}
 use Rattle.turn.specs.Code.Growing.{placed}
 
 -- ---- the list with the set in its place
@@ -51,62 +60,76 @@ placed_rising S (R ∷ list) r q = (first, placed_rising (max S R) list r.1 late
     later : ¬ Among (max S R) list
     later h = ⊎_elim (λ o. omega (arith, r.0 (max S R) h)) (λ o. q (inr (rw o.1 at h))) (either S R)
 
--- ---- how the loop does it
+-- ---- the place that is found by halves
 
--- the places before i hold `before`, the others what they held; what is carried goes into the rest of the first `filled`
-pub record Carried (list₀ : List ℕ) (filled S i carried : ℕ) (list : List ℕ) : Type 0 where
-  pub before : List ℕ
-  pub size : length before ≡ i
-  pub here : list ≡ before ++ drop i list₀
-  pub rest : before ++ placed carried (take (filled - i) (drop i list₀)) ≡ placed S (take filled list₀)
+-- the sets below S come first
+pub rising_parts : (S : ℕ) (list : List ℕ) → Rising list → IsPartitionedBy (λ R. ltb R S) list
+rising_parts S [] r i j d l m t = absurd (not-suc-le-zero m)
+rising_parts S (R ∷ list) r zero zero d l m t = t
+rising_parts S (R ∷ list) r zero (suc j) d l m t =
+    let k : j < length list = omega arith in
+    let e : get_or list j d ≡ get_or list j 0 = get_or_default list j d 0 k in
+    let above : R < get_or list j d = rw e (r.0 (get_or list j 0) (place_listed list j k)) in
+    let below : get_or list j d < S = ltb-true (get_or list j d) S t in
+    lt-ltb R S (omega arith)
+rising_parts S (R ∷ list) r (suc i) zero d l m t = absurd (not-suc-le-zero l)
+rising_parts S (R ∷ list) r (suc i) (suc j) d l m t = rising_parts S list r.1 i j d (omega arith) (omega arith) t
 
-module _ (list₀ : List ℕ) (filled S : ℕ) where
-  pub carried_start : Carried list₀ filled S 0 S list₀
-  carried_start = record {
-    before = [];
-    size = refl;
-    here = refl;
-    rest = let e : filled - 0 ≡ filled = omega arith in rw e;
-  }
+-- a set that is not above any of a rising list stands before them
+placed_first : (S : ℕ) (list : List ℕ) → Rising list → ((X : ℕ) → Among X list → S ≤ X) → placed S list ≡ S ∷ list
+placed_first S [] r low = refl
+placed_first S (R ∷ list) r low =
+    let l : S ≤ R = low R (inl refl) in
+    let one : min S R ≡ S = omega arith in
+    let other : max S R ≡ R = omega arith in
+    rw (one, other) (ap (λ (rest : List ℕ). S ∷ rest) (placed_first R list r.1 (λ X h. let m = r.0 X h in omega arith)))
 
-  module _ (i carried : ℕ) (list : List ℕ) (l : i < length list₀) (so : Carried list₀ filled S i carried list) where
-    -- what stands at place i is what stood there
-    pub carried_here : get_or list i 0 ≡ get_or list₀ i 0
-    carried_here = rw (so.here, front list₀ i l) (get_or_at so.before (get_or list₀ i 0) (drop (i + 1) list₀) 0 i so.size)
+-- so the place of S is where the sets that are not below it begin
+pub placed_at : (S : ℕ) (list : List ℕ) (at : ℕ) → Rising list → at ≤ length list → IsPartitionPoint (λ R. ltb R S ≡ true) (λ R. ltb R S ≡ false) list at
+    → placed S list ≡ insert list at S
+placed_at S list zero r l parts =
+    placed_first S list r (λ X h. let place = listed_place list X h in rw place.2 at (ltb-false (get_or list place.0 0) S (parts.1 place.0 0 (omega arith) place.1)))
+placed_at S [] (suc at) r l parts = absurd (not-suc-le-zero l)
+placed_at S (R ∷ list) (suc at) r l parts =
+    let b : R < S = ltb-true R S (parts.0 zero 0 (omega arith) (omega arith)) in
+    let one : min S R ≡ R = omega arith in
+    let other : max S R ≡ S = omega arith in
+    rw (one, other)
+    (ap (λ (rest : List ℕ). R ∷ rest) (placed_at S list at r.1 (omega arith)
+    ((λ k d a b. parts.0 (suc k) d (omega arith) (omega arith)), λ k d a b. parts.1 (suc k) d (omega arith) (omega arith))))
 
-    -- the smaller stays, the larger is carried on
-    carried_next : (low high : ℕ) (list' : List ℕ) → i < filled → low ≡ min carried (get_or list₀ i 0) → high ≡ max carried (get_or list₀ i 0)
-        → list' ≡ (so.before ++ (low ∷ [])) ++ drop (i + 1) list₀ → Carried list₀ filled S (i + 1) high list'
-    carried_next low high list' f e g h = record {
-      before = so.before ++ (low ∷ []);
-      size = simp length-append (omega (arith, so.size));
-      here = h;
-      rest = append_snoc so.before low (placed high others) ∙ ap (λ (l : List ℕ). so.before ++ l) keeps ∙ so.rest;
-    }
-      where
-        others : List ℕ
-        others = take (filled - (i + 1)) (drop (i + 1) list₀)
+-- ---- the sets from there on move by one place
 
-        keeps : low ∷ placed high others ≡ placed carried (take (filled - i) (drop i list₀))
-        keeps = let one : filled - i ≡ suc (filled - (i + 1)) = omega arith in rw (e, g, front list₀ i l, one)
+-- a set behind the first `filled` goes to place `at`, as the part from there to it turns by one
+pub turned : (list : List ℕ) (at filled S : ℕ) (part moved : List ℕ) → at ≤ filled → filled < length list → part ≡ take (filled + 1 - at) (drop at (set list filled S))
+    → moved ≡ drop (length part - 1) part ++ take (length part - 1) part
+    → take (filled + 1) (put_mid at (filled + 1 - at) (set list filled S) moved) ≡ insert (take filled list) at S
+turned list at filled S part moved l m e f =
+    take-put_mid at (filled + 1 - at) (set list filled S) moved (filled + 1) (omega (arith, ap length turns, length-drop at sets, size)) (omega (arith, length-set list filled S)) ∙ rw (kept, turns)
+  where
+    sets : List ℕ
+    sets = take filled list
 
-    -- what is carried is smaller: it is put there, and what stood there is carried on
-    pub carried_swap : i < filled → carried < get_or list₀ i 0 → Carried list₀ filled S (i + 1) (get_or list₀ i 0) (set list i carried)
-    carried_swap f s =
-        carried_next carried (get_or list₀ i 0) (set list i carried) f (omega arith) (omega arith)
-        (rw so.here (fill_next so.before list₀ i carried so.size l))
+    size : length sets ≡ filled
+    size = length-take-le filled list (omega arith)
 
-    -- it is not: what stands there stays
-    pub carried_pass : i < filled → get_or list₀ i 0 ≤ carried → Carried list₀ filled S (i + 1) carried list
-    carried_pass f s =
-        carried_next (get_or list₀ i 0) carried list f (omega arith) (omega arith)
-        (so.here ∙ rw (front list₀ i l) (sym (append_snoc so.before (get_or list₀ i 0) (drop (i + 1) list₀))))
+    whole : part ≡ drop at sets ++ (S ∷ [])
+    whole =
+        e ∙ between_is (set list filled S) at (filled + 1) ∙ ap (drop at) (take_more_set list filled S m) ∙ drop-append-le at sets (S ∷ []) (omega (arith, size))
 
-  -- at the end what is carried takes the place behind the others
-  pub carried_end : (i carried : ℕ) (list : List ℕ) → i ≡ filled → filled < length list₀ → Carried list₀ filled S i carried list
-      → set list filled carried ≡ placed S (take filled list₀) ++ drop (filled + 1) list₀
-  carried_end i carried list e l so =
-      let none : filled - i ≡ 0 = omega arith in
-      let last : so.before ++ (carried ∷ []) ≡ placed S (take filled list₀) = rw none at so.rest in
-      let here : list ≡ so.before ++ drop filled list₀ = rw e at so.here in
-      rw (here, ← last) (fill_next so.before list₀ filled carried (so.size ∙ e) l)
+    before : length part - 1 ≡ length (drop at sets)
+    before = rw (whole, length-append) (omega arith)
+
+    turns : moved ≡ S ∷ drop at sets
+    turns = f ∙ rw (before, whole, drop_at (drop at sets) (S ∷ []) (length (drop at sets)) refl, take_at (drop at sets) (S ∷ []) (length (drop at sets)) refl)
+
+    kept : take at (set list filled S) ≡ take at sets
+    kept = take-set-le at list filled S l ∙ sym (take-take at filled list l)
+
+-- and there are as many places as before
+pub turned_length : (list : List ℕ) (at filled S : ℕ) (part moved : List ℕ) → at ≤ filled → filled < length list → part ≡ take (filled + 1 - at) (drop at (set list filled S))
+    → length moved ≡ length part → length (put_mid at (filled + 1 - at) (set list filled S) moved) ≡ length list
+turned_length list at filled S part moved l m e f =
+    let long : length part ≡ filled + 1 - at = rw e (omega (arith, length-take (filled + 1 - at) (drop at (set list filled S)), length-drop at (set list filled S), length-set list filled S)) in
+    rw (put_mid-paste at (filled + 1 - at) (set list filled S) moved moved (filled + 1 - at) refl refl (omega arith))
+    (length-paste (set list filled S) at moved (filled + 1 - at) (omega (arith, length-set list filled S)) (omega arith) ∙ length-set list filled S)

@@ -9,12 +9,14 @@ use native.Mathlib.Omega.{arith}
 use borrow.Author.Tests.{le-ltb, lt-leb, eqb-true, eqb-false, ltb-false, leb-false, not-false}
 use lib.Dec.{ltb, leb, eqb}
 use lib.ListN.{length}
+use Rattle.std.specs.Prelude.{Result, Ok, Err}
 use Rattle.sets.specs.Lists.{Among, Exactly}
 use Rattle.sets.specs.Tests.{fine}
 use Rattle.sets.specs.Turns.{SmallestCross, Turned}
 use Rattle.numbers.proofs.Deciding.{T_true, neither, cond_case}
 use Rattle.sets.proofs.Tests.{fine_iff}
 use Rattle.sets.proofs.Turning.{turn_exists, turn_unique, turned_fine, turn_back, turn_of_empty, turn_of_nothing}
+use Rattle.setups.specs.declared.Refusal.{Refusal}
 use Rattle.setups.specs.declared.Refusal.TheVariants.{Size, Work, Softs, TooMany, List as NotAList}
 use Rattle.setups.specs.Limits.{sets_most, settings_most}
 use Rattle.setups.specs.Setups.{Setup, count, WayOut, Clash}
@@ -24,8 +26,6 @@ use Rattle.setups.specs.Turn.{turn_refusal, turned_result, TurnGives}
 use Rattle.setups.proofs.Duality.{clashes_turned, ways_out_turned}
 use Rattle.setups.proofs.GivenOut.{number_so, filled_so, list_so, scratch_so, gives_nothing, gives_exactly}
 use Rattle.setups.proofs.Refusals.{number_only, refused_number, check_none}
-use Rattle.turn.specs.declared.Turning.{Turning}
-use Rattle.turn.specs.declared.Turning.TheVariants.{Listed, Refused}
 use Rattle.turn.specs.Turning.{answered, Turns}
 use Rattle.turn.specs.Meaning.{Turnable, TurnMeans}
 
@@ -40,14 +40,14 @@ pub turn_result_only : (n : ℕ) (given list scratch : List ℕ) (r s : ListResu
 turn_result_only n given list scratch r s p q = p.says ∙ rw (turn_unique n given p.turned q.turned p.exact q.exact) (sym q.says)
 
 -- one result comes from one answer and two buffers
-answered_only : (answer other : Turning) (list scratch list_too scratch_too : List ℕ) → answered answer list scratch ≡ answered other list_too scratch_too
+answered_only : (answer other : Result ℕ Refusal) (list scratch list_too scratch_too : List ℕ) → answered answer list scratch ≡ answered other list_too scratch_too
     → (answer ≡ other) × (list ≡ list_too) × (scratch ≡ scratch_too)
-answered_only (Listed n) (Listed m) list scratch list_too scratch_too e = (ap Listed (filled_so e), list_so e, scratch_so e)
-answered_only (Listed n) (Refused b) list scratch list_too scratch_too e = absurd (refused_number b (sym (number_so e)))
-answered_only (Refused a) (Listed m) list scratch list_too scratch_too e = absurd (refused_number a (number_so e))
-answered_only (Refused a) (Refused b) list scratch list_too scratch_too e = (ap Refused (number_only a b (number_so e)), list_so e, scratch_so e)
+answered_only (Ok n) (Ok m) list scratch list_too scratch_too e = (ap Ok (filled_so e), list_so e, scratch_so e)
+answered_only (Ok n) (Err b) list scratch list_too scratch_too e = absurd (refused_number b (sym (number_so e)))
+answered_only (Err a) (Ok m) list scratch list_too scratch_too e = absurd (refused_number a (number_so e))
+answered_only (Err a) (Err b) list scratch list_too scratch_too e = (ap Err (number_only a b (number_so e)), list_so e, scratch_so e)
 
-pub turn_only : (n : ℕ) (given list scratch : List ℕ) (answer other : Turning) (list_after scratch_after list_too scratch_too : List ℕ)
+pub turn_only : (n : ℕ) (given list scratch : List ℕ) (answer other : Result ℕ Refusal) (list_after scratch_after list_too scratch_too : List ℕ)
     → Turns n given list scratch answer list_after scratch_after → Turns n given list scratch other list_too scratch_too
     → (answer ≡ other) × (list_after ≡ list_too) × (scratch_after ≡ scratch_too)
 turn_only n given list scratch answer other list_after scratch_after list_too scratch_too p q =

@@ -1,15 +1,16 @@
--- How a branch parts in two: one of the settings that it turns on is taken, or it is left; and how the scratch grows by the two parts.
+-- How a branch parts in two: one of the settings that it turns on is taken, or it is left; and how the sets found grow by the two parts.
 use mathlib.Core.Path.{◌≡◌, sym, subst}
 use mathlib.Core.Logic.{◌⊎◌, inl, inr, ⊎_elim, ◌≢◌, by_cases}
 use mathlib.Core.List.{List}
-use Prim.Native.Nat.{ℕ, ◌≤◌, ◌<◌}
+use Prim.Native.Nat.{ℕ, ◌<◌}
 use native.Mathlib.Omega.{arith}
-use lib.ListN.{length}
 use Rattle.sets.specs.Sets.{In, Share, Joins, Leaves}
 use Rattle.sets.proofs.Digits.{in_dec, none_in, within_le}
-use Rattle.turn.specs.Code.Branches.{Branch, TurnsOn}
-use Rattle.turn.specs.Code.Growing.{Ready, Grown}
-use Rattle.turn.proofs.Growth.{ready_first, grown_first, ready_second, grown_both}
+use Rattle.turn.specs.declared.found.Found.{Found}
+use Rattle.turn.specs.declared.Branch.{Branch}
+use Rattle.turn.specs.Code.Branches.{Holds, HeldBy, TurnsOn}
+use Rattle.turn.specs.Code.Growing.{Ready, Added, Overfull}
+use Rattle.turn.proofs.Growth.{added_none, ready_first, over_first, ready_second, added_both, over_both}
 
 -- the branch turns on `wanted`, and `one` is the set of one of these settings: with it the taken ones are `more`, without it the ones
 -- left are `less`
@@ -19,6 +20,13 @@ pub record Parts (members : List ℕ) (taken left wanted one more less : ℕ) : 
   pub lone : (i j : ℕ) → In i one → In j one → i ≡ j
   pub joins : Joins taken one more
   pub leaves : Leaves left one less
+
+-- a set without one of its settings is less
+fewer : (S R Q : ℕ) → Share S R → Leaves S R Q → Q < S
+fewer S R Q shared leaves =
+    let out : ¬ In shared.0 Q = λ h. ((leaves shared.0).0 h).1 shared.2 in
+    let ne : Q ≢ S = λ e. out (subst (λ (x : ℕ). In shared.0 x) (sym e) shared.1) in
+    omega (arith, within_le Q S (λ j h. ((leaves j).0 h).0))
 
 module _ {members : List ℕ} {taken left wanted one more less : ℕ} (parts : Parts members taken left wanted one more less) where
   -- the place of that setting
@@ -33,20 +41,20 @@ module _ {members : List ℕ} {taken left wanted one more less : ℕ} (parts : P
   unfolding place
   in_one = parts.chosen.2
 
-  -- fewer settings are left
+  -- fewer settings are left, and fewer are wanted
   pub fewer_left : less < left
-  fewer_left =
-      let out : ¬ In place less = λ h. ((parts.leaves place).0 h).1 in_one in
-      let ne : less ≢ left = λ e. out (subst (λ (x : ℕ). In place x) (sym e) (parts.turns.among place among)) in
-      omega (arith, within_le less left (λ j h. ((parts.leaves j).0 h).0))
+  fewer_left = fewer left one less (place, parts.turns.among place among, in_one) parts.leaves
+
+  pub fewer_wanted : (still : ℕ) → Leaves wanted one still → still < wanted
+  fewer_wanted still = fewer wanted one still parts.chosen
 
   -- ---- the two parts
 
   -- the first: each set of the branch with that setting taken has it, and is one of the whole
-  take_has : (S : ℕ) → Branch members more less S → In place S
+  take_has : (S : ℕ) → Holds members more less S → In place S
   take_has S b = b.has place ((parts.joins place).1 (inr in_one))
 
-  take_in : (S : ℕ) → Branch members more less S → Branch members taken left S
+  pub take_in : (S : ℕ) → Holds members more less S → Holds members taken left S
   take_in S b = record { smallest = b.smallest; has = λ j h. b.has j ((parts.joins j).1 (inl h)); rest = from }
     where
       from : (j : ℕ) → In j S → In j taken ⊎ In j left
@@ -55,20 +63,20 @@ module _ {members : List ℕ} {taken left wanted one more less : ℕ} (parts : P
           (λ l. inr ((parts.leaves j).0 l).0) (b.rest j h)
 
   -- the second: each set of the branch with that setting left lacks it, and is one of the whole
-  leave_lacks : (S : ℕ) → Branch members taken less S → ¬ In place S
+  leave_lacks : (S : ℕ) → Holds members taken less S → ¬ In place S
   leave_lacks S b h = ⊎_elim (parts.turns.apart place among) (λ l. ((parts.leaves place).0 l).1 in_one) (b.rest place h)
 
-  leave_in : (S : ℕ) → Branch members taken less S → Branch members taken left S
+  pub leave_in : (S : ℕ) → Holds members taken less S → Holds members taken left S
   leave_in S b = record { smallest = b.smallest; has = b.has; rest = λ j h. ⊎_elim inl (λ l. inr ((parts.leaves j).0 l).0) (b.rest j h) }
 
   -- they have nothing in common, and there is nothing else
-  take_leave : (S : ℕ) → Branch members more less S → ¬ Branch members taken less S
+  pub take_leave : (S : ℕ) → Holds members more less S → ¬ Holds members taken less S
   take_leave S b d = leave_lacks S d (take_has S b)
 
-  take_or_leave : (S : ℕ) → Branch members taken left S → Branch members more less S ⊎ Branch members taken less S
+  pub take_or_leave : (S : ℕ) → Holds members taken left S → Holds members more less S ⊎ Holds members taken less S
   take_or_leave S b = by_cases (in_dec place S) (λ h. inl (takes h)) (λ q. inr (lacks q))
     where
-      takes : In place S → Branch members more less S
+      takes : In place S → Holds members more less S
       takes h = record { smallest = b.smallest; has = has; rest = rest }
         where
           has : (j : ℕ) → In j more → In j S
@@ -79,7 +87,7 @@ module _ {members : List ℕ} {taken left wanted one more less : ℕ} (parts : P
               by_cases (in_dec j one) (λ o. inl ((parts.joins j).1 (inr o)))
               (λ q. ⊎_elim (λ t. inl ((parts.joins j).1 (inl t))) (λ l. inr ((parts.leaves j).1 (l, q))) (b.rest j k))
 
-      lacks : ¬ In place S → Branch members taken less S
+      lacks : ¬ In place S → Holds members taken less S
       lacks q = record { smallest = b.smallest; has = b.has; rest = rest }
         where
           rest : (j : ℕ) → In j S → In j taken ⊎ In j less
@@ -88,7 +96,7 @@ module _ {members : List ℕ} {taken left wanted one more less : ℕ} (parts : P
   -- ---- what the second turns on
 
   module _ (still : ℕ) (drops : Leaves wanted one still) where
-    others : (S : ℕ) → Branch members taken less S → Share S still
+    others : (S : ℕ) → Holds members taken less S → Share S still
     others S b = go (parts.turns.each S (leave_in S b))
       where
         go : Share S wanted → Share S still
@@ -104,34 +112,42 @@ module _ {members : List ℕ} {taken left wanted one more less : ℕ} (parts : P
     }
 
     -- it is empty where nothing is
-    leave_empty : still ≡ 0 → (S : ℕ) → ¬ Branch members taken less S
+    pub leave_empty : still ≡ 0 → (S : ℕ) → ¬ Holds members taken less S
     leave_empty e S b = go (others S b)
       where
         go : ¬ Share S still
         go s = none_in s.0 (rw e at s.2)
 
-  -- ---- the scratch
+-- ---- the loop
 
-  module _ {filled room : ℕ} {before : List ℕ} (ready : Ready (Branch members taken left) filled room before) where
-    -- it is ready for the first part
-    pub take_ready : Ready (Branch members more less) filled room before
-    take_ready = ready_first ready take_in
+-- it goes on with a part of the branch, `now`, and with what is found so far: what that part adds, or has too much of, the branch does
+pub record GoesOn (start : Branch) (before : Found) (now : Branch) (wanted : ℕ) (found : Found) : Type 0 where
+  pub turns : wanted ≢ 0 → TurnsOn now.members.now now.taken now.left wanted
+  pub empty : wanted ≡ 0 → (S : ℕ) → ¬ HeldBy now S
+  pub ready : Ready (HeldBy now) found
+  pub added : (after : Found) → Added (HeldBy now) found after → Added (HeldBy start) before after
+  pub over : Overfull (HeldBy now) found → Overfull (HeldBy start) before
 
-    module _ {found : ℕ} {middle : List ℕ} (grown : Grown (Branch members more less) filled room before found middle) where
-      -- the first part alone is more than the room
-      pub take_full : room < found → Grown (Branch members taken left) filled room before found middle
-      take_full l = grown_first ready take_in grown (λ f. absurd (let z : ⊥ = omega arith in z))
+module _ {start now : Branch} {before found : Found} {wanted one more less : ℕ} (goes : GoesOn start before now wanted found)
+    (parts : Parts now.members.now now.taken now.left wanted one more less) where
+  -- those found are ready for the first part; if that is too much, so is the branch
+  pub take_ready : Ready (Holds now.members.now more less) found
+  take_ready = ready_first goes.ready (take_in parts)
 
-      -- the second part is empty
-      pub take_last : (still : ℕ) → Leaves wanted one still → still ≡ 0 → Grown (Branch members taken left) filled room before found middle
-      take_last still drops e =
-          grown_first ready take_in grown (λ f S b. ⊎_elim (λ p. p) (λ d. absurd (leave_empty still drops e S d)) (take_or_leave S b))
+  pub take_over : Overfull (Holds now.members.now more less) found → Overfull (HeldBy start) before
+  take_over o = goes.over (over_first goes.ready (take_in parts) o)
 
-      -- it is ready for the second part, and then has grown by both
-      module _ (fits : found ≤ room) where
-        pub leave_ready : length middle ≡ length before → Ready (Branch members taken less) found room middle
-        leave_ready e = ready_second ready take_in grown leave_in fits e take_leave
+  -- then it goes on with the second part
+  pub goes_next : (middle : Found) (still : ℕ) → Added (Holds now.members.now more less) found middle → Leaves wanted one still
+      → GoesOn start before (record now { left = less }) still middle
+  goes_next middle still first drops = record {
+    turns = leave_turns parts still drops;
+    empty = leave_empty parts still drops;
+    ready = ready_second goes.ready (take_in parts) first (leave_in parts) (take_leave parts);
+    added = λ after a. goes.added after (added_both goes.ready (take_in parts) first (leave_in parts) after a (take_or_leave parts));
+    over = λ o. goes.over (over_both goes.ready (take_in parts) first (leave_in parts) o);
+  }
 
-        pub take_and_leave : {r : ℕ} {after : List ℕ} → Grown (Branch members taken less) found room middle r after
-            → Grown (Branch members taken left) filled room before r after
-        take_and_leave next = grown_both ready take_in grown leave_in fits next take_or_leave
+-- at the end nothing is left of it
+pub goes_last : {start now : Branch} {before found : Found} {wanted : ℕ} → GoesOn start before now wanted found → wanted ≡ 0 → Added (HeldBy start) before found
+goes_last {found = found} goes e = goes.added found (added_none goes.ready (goes.empty e))

@@ -1,4 +1,5 @@
 -- What describes the code: the contracts of functions inside cite it, and nobody has to believe it.
 pub mod Giving
 pub mod Branches
+pub mod Rising
 pub mod Growing

@@ -10,6 +10,7 @@ use Rattle.sets.proofs.Digits.{only_in, joins_only}
 use Rattle.setups.specs.Limits.{settings_most}
 use Rattle.setups.specs.Setups.{Setup, count, SettingTrue, WayOut}
 use Rattle.walk.specs.declared.Node.{Node}
+use Rattle.walk.specs.declared.Live.{Live}
 use Rattle.walk.specs.Walking.{AboveDecided, KeepsHighest, GivesUpHighest, Below, WayOutBetween, Reached, Witnessed}
 use Rattle.walk.proofs.Nodes.{not_given, not_kept, keep_decided, give_decided}
 use Rattle.walk.proofs.Replies.{some_way_out}
@@ -60,12 +61,13 @@ module _ {g : Setup} {node : Node} (s : Known g node) where
     pub give_reached : {found : List ℕ} → Below g next.given found → Reached g next found
     give_reached b = record { decided = rw (given, k.kept) (give_decided below); before = b }
 
-module _ {g : Setup} {node : Node} {found : List ℕ} (most : count g ≤ settings_most) (s : Witnessed g node found) where
-  known : Known g node
+module _ {g : Setup} {live : Live} {found : List ℕ} (most : count g ≤ settings_most) (s : Witnessed g live found) where
+  known : Known g live.node
   known = record { most = most; decided = s.reached.decided }
 
   -- Keeping a setting that the witness has: the same model serves.
-  pub keep_witnessed : {next : Node} → KeepsHighest node next → Share node.witness (only settings_most node.left) → Witnessed g next found
+  pub keep_witnessed : {next : Node} → KeepsHighest live.node next → Share live.witness (only settings_most live.node.left)
+      → Witnessed g (record { node = next; witness = live.witness }) found
   keep_witnessed k has = record {
     reached = keep_reached known k s.reached.before;
     model = s.model;
@@ -77,26 +79,29 @@ module _ {g : Setup} {node : Node} {found : List ℕ} (most : count g ≤ settin
       };
       each = s.meets.each;
     };
-    shows = rw k.witness s.shows;
+    shows = s.shows;
   }
     where
-      new : (i : ℕ) → i < count g → In i (only settings_most node.left) → SettingTrue g s.model i
+      new : (i : ℕ) → i < count g → In i (only settings_most live.node.left) → SettingTrue g s.model i
       new i l h =
-          let e : has.0 ≡ i = suc_inj (((only_in settings_most node.left has.0).0 has.2).0 ∙ sym ((only_in settings_most node.left i).0 h).0) in
-          (s.shows.exact i l).0 (subst (λ (x : ℕ). In x node.witness) e has.1)
+          let at = live.node.left in
+          let e : has.0 ≡ i = suc_inj (((only_in settings_most at has.0).0 has.2).0 ∙ sym ((only_in settings_most at i).0 h).0) in
+          (s.shows.exact i l).0 (subst (λ (x : ℕ). In x live.witness) e has.1)
 
   -- Giving up after a dead keep: the node's branch has a way out, and none with the setting kept, so the same witness serves.
-  pub give_witnessed : {next : Node} → GivesUpHighest node next → ¬ WayOutBetween g node.given (node.given + 2 ^ (node.left - 1)) → Witnessed g next found
+  pub give_witnessed : {next : Node} → GivesUpHighest live.node next → ¬ WayOutBetween g live.node.given (live.node.given + 2 ^ (live.node.left - 1))
+      → Witnessed g (record { node = next; witness = live.witness }) found
   give_witnessed k dead = record {
     reached = give_reached known k (rw (give_from known k) (below_skip (omega arith) s.reached.before dead));
     model = s.model;
     meets = rw k.kept s.meets;
-    shows = rw k.witness s.shows;
+    shows = s.shows;
   }
 
 -- With no setting left the given-up set is the one way out of the branch, with no further question.
-pub end_way_out : {g : Setup} {node : Node} {found : List ℕ} → Witnessed g node found → node.left ≡ 0 → WayOut g node.given
-end_way_out {g} {node} s e =
+pub end_way_out : {g : Setup} {live : Live} {found : List ℕ} → Witnessed g live found → live.node.left ≡ 0 → WayOut g live.node.given
+end_way_out {g} {live} s e =
+    let given = live.node.given in
     let one = some_way_out s.reached.decided s.reached.before s.model s.meets in
-    let high = subst (λ (x : ℕ). one.0 < node.given + 2 ^ x) e one.3 in
-    subst (WayOut g) (let same : one.0 ≡ node.given = omega (arith, one.2) in same) one.1
+    let high = subst (λ (x : ℕ). one.0 < given + 2 ^ x) e one.3 in
+    subst (WayOut g) (let same : one.0 ≡ given = omega (arith, one.2) in same) one.1

@@ -7,19 +7,20 @@ use lib.ListN.{length, take, set, length-append}
 use lib.Seq.{length-take-le}
 use Rattle.setups.specs.Setups.{Setup}
 use Rattle.walk.specs.declared.Node.{Node}
+use Rattle.walk.specs.declared.Live.{Live}
 use Rattle.walk.specs.Walking.{GivesUpHighest, Below, WayOutBetween, Reached, Witnessed, Walked}
 use Rattle.walk.proofs.NodeSteps.{Known, give_from, give_to, give_reached, end_way_out}
 use Rattle.walk.proofs.WaysBelow.{below_skip, below_more, below_on, below_next}
 use Rattle.walk.proofs.Overwriting.{over_length, over_full, over_again, over_store, over_take}
 
 -- With no setting left the given-up set is put behind those found.
-pub walked_end : (g : Setup) (node : Node) (filled : ℕ) (places : List ℕ) → node.left ≡ 0 → Witnessed g node (take filled places) → filled < length places
-    → Walked g (node.given + 2 ^ node.left) places (set places filled node.given) (filled + 1)
-walked_end g node filled places e s l = rw e (record {
-  ways = take filled places ++ (node.given ∷ []);
-  exact = below_next g node.given (take filled places) s.reached.before (end_way_out s e);
-  places = sym (over_store filled places node.given l);
-  count = omega (arith, length-append (take filled places) (node.given ∷ []), length-take-le filled places (let m : filled ≤ length places = omega arith in m));
+pub walked_end : (g : Setup) (live : Live) (filled : ℕ) (places : List ℕ) → live.node.left ≡ 0 → Witnessed g live (take filled places) → filled < length places
+    → Walked g (live.node.given + 2 ^ live.node.left) places (set places filled live.node.given) (filled + 1)
+walked_end g live filled places e s l = rw e (record {
+  ways = take filled places ++ (live.node.given ∷ []);
+  exact = below_next g live.node.given (take filled places) s.reached.before (end_way_out s e);
+  places = sym (over_store filled places live.node.given l);
+  count = omega (arith, length-append (take filled places) (live.node.given ∷ []), length-take-le filled places (let m : filled ≤ length places = omega arith in m));
 })
 
 -- The places hold the ways out below `middle`, and the walk goes on to `top`.
@@ -61,14 +62,14 @@ module _ {g : Setup} {middle top : ℕ} {places after : List ℕ} {filled : ℕ}
       }
 
 -- The two branches below a node: the walk is through with that of `kept`, and `up` is the other.
-pub record Half (g : Setup) (node up kept : Node) (places after : List ℕ) (filled : ℕ) : Type 0 where
+pub record Half (g : Setup) (node up : Node) (kept : Live) (places after : List ℕ) (filled : ℕ) : Type 0 where
   pub known : Known g node
   pub gives : GivesUpHighest node up
-  pub left : kept.left ≡ node.left - 1
-  pub given : kept.given ≡ node.given
-  pub walked : Walked g (kept.given + 2 ^ kept.left) places after filled
+  pub left : kept.node.left ≡ node.left - 1
+  pub given : kept.node.given ≡ node.given
+  pub walked : Walked g (kept.node.given + 2 ^ kept.node.left) places after filled
 
-module _ {g : Setup} {node up kept : Node} {places after : List ℕ} {filled : ℕ} (h : Half g node up kept places after filled) where
+module _ {g : Setup} {node up : Node} {kept : Live} {places after : List ℕ} {filled : ℕ} (h : Half g node up kept places after filled) where
   half : Walked g up.given places after filled
   half = rw (give_from h.known h.gives, ← h.left, ← h.given) h.walked
 
@@ -84,6 +85,6 @@ module _ {g : Setup} {node up kept : Node} {places after : List ℕ} {filled : �
   pub half_dead : ¬ WayOutBetween g up.given (up.given + 2 ^ up.left) → Walked g (node.given + 2 ^ node.left) places after filled
   half_dead dead = walked_dead more half (rw (give_to h.known h.gives) at dead)
 
-  pub half_on : (live : Node) {last : List ℕ} {reached : ℕ} → live.left ≡ up.left → live.given ≡ up.given
-      → Walked g (live.given + 2 ^ live.left) after last reached → Walked g (node.given + 2 ^ node.left) places last reached
+  pub half_on : (live : Live) {last : List ℕ} {reached : ℕ} → live.node.left ≡ up.left → live.node.given ≡ up.given
+      → Walked g (live.node.given + 2 ^ live.node.left) after last reached → Walked g (node.given + 2 ^ node.left) places last reached
   half_on live left given w = walked_on more half (rw (← (give_to h.known h.gives), ← left, ← given) w)

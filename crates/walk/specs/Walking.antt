@@ -1,13 +1,12 @@
 -- The walk under List (document 01, "Ways out and clashes"): its nodes, what it knows at each, and what it leaves in its places.
-use Rattle.std.specs.Prelude.{◌≡◌, refl, List, [], ◌∷◌, ℕ, suc, ◌+◌, ◌*◌, ◌^◌, ◌≤◌, ◌<◌, min, length}
+use Rattle.std.specs.Prelude.{◌≡◌, refl, List, [], ◌∷◌, ℕ, suc, ◌+◌, ◌*◌, ◌^◌, ◌≤◌, ◌<◌, min, length, Option, Some, None}
 use Rattle.sets.specs.Sets.{Joins, only}
 use Rattle.sets.specs.Lists.{Exactly}
 use Rattle.setups.specs.Limits.{settings_most}
 use Rattle.setups.specs.Setups.{Setup, count, WayOut}
 use Rattle.question.specs.Question.{Meets, Shows}
 use Rattle.walk.specs.declared.Node.{Node}
-use Rattle.walk.specs.declared.Entered.{Entered}
-use Rattle.walk.specs.declared.Entered.TheVariants.{Live, Dead}
+use Rattle.walk.specs.declared.Live.{Live}
 
 -- ---- nodes
 
@@ -30,14 +29,12 @@ pub record KeepsHighest (node next : Node) : Type 0 where
   pub left : suc next.left ≡ node.left
   pub given : next.given ≡ node.given
   pub kept : Joins node.kept (only settings_most node.left) next.kept
-  pub witness : next.witness ≡ node.witness
 
 -- `next` is the node below `node`, where it is given up
 pub record GivesUpHighest (node next : Node) : Type 0 where
   pub left : suc next.left ≡ node.left
   pub given : Joins node.given (only settings_most node.left) next.given
   pub kept : next.kept ≡ node.kept
-  pub witness : next.witness ≡ node.witness
 
 -- ---- what the walk knows at a node
 
@@ -55,16 +52,16 @@ pub record Reached (g : Setup) (node : Node) (found : List ℕ) : Type 0 where
   pub before : Below g node.given found
 
 -- and a model, of which the witness tells, shows that the branch has one
-pub record Witnessed (g : Setup) (node : Node) (found : List ℕ) : Type 0 where
-  pub reached : Reached g node found
+pub record Witnessed (g : Setup) (live : Live) (found : List ℕ) : Type 0 where
+  pub reached : Reached g live.node found
   pub model : List ℕ
-  pub meets : Meets g node.kept found model
-  pub shows : Shows g model node.witness
+  pub meets : Meets g live.node.kept found model
+  pub shows : Shows g model live.witness
 
--- The question before a node: the node, live now, or that its branch has no way out.
-abbrev pub Enters : Setup → ℕ → ℕ → List ℕ → Entered → Type 0
-Enters g left given found (Live next) = Witnessed g next found × (next.left ≡ left) × (next.given ≡ given)
-Enters g left given found Dead = ¬ WayOutBetween g given (given + 2 ^ left)
+-- The question before a node: the node, live now; there is none only where its branch has no way out.
+abbrev pub Enters : Setup → ℕ → ℕ → List ℕ → Option Live → Type 0
+Enters g left given found (Some live) = Witnessed g live found × (live.node.left ≡ left) × (live.node.given ≡ given)
+Enters g left given found None = ¬ WayOutBetween g given (given + 2 ^ left)
 
 -- ---- what the walk leaves
 

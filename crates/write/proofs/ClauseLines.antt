@@ -1,15 +1,22 @@
 -- The lines of a buffer's clauses: clause by clause, how long they are, and how they are stored.
 use mathlib.Core.Path.{◌≡◌, refl, sym, ap, ◌∙◌}
-use mathlib.Core.Logic.{◌≢◌}
-use mathlib.Core.Bool.{true}
+use mathlib.Core.Bool.{Bool, true, true≢false}
 use mathlib.Core.List.{List, [], ◌∷◌, ◌++◌, append_assoc}
-use Prim.Native.Nat.{ℕ, zero, suc, ◌+◌, ◌*◌, ◌≤◌, ◌<◌}
+use Prim.Native.Nat.{ℕ, zero, suc, ◌+◌, ◌*◌, ◌-◌, ◌≤◌, ◌<◌, zero-le}
 use native.Mathlib.Nat.{zero-add}
-use native.Mathlib.Numerals.{add-one, add-two}
 use native.Mathlib.Omega.{arith}
-use lib.ListN.{length, get_or, drop, set, length-append, length-drop, drop_of_length-le}
-use lib.Seq.{sets, drop-drop, drop-nil}
-use Rattle.numbers.proofs.Places.{front}
+use borrow.Author.Tests.{ne_eqb}
+use lib.Dec.{eqb}
+use lib.ListN.{length, take, drop, length-append}
+use lib.Seq.{sets, drop-nil, drop-append_seam}
+use Rattle.std.proofs.Common.{min}
+use Rattle.std.specs.List.{position_or_len, IsFirstMatchOrLen}
+use Rattle.std.specs.Fn.{Called, ComputesKey}
+use Rattle.std.proofs.lemmas.List.Sorted.{answers_always}
+use denote.Param.Members.{Mut}
+use denote.Ref.{Bor}
+use Rattle.std.proofs.lemmas.List.{take-append-le}
+use Rattle.std.proofs.lemmas.List.Sums.{passes_at_first, position_or_len_is}
 use Rattle.numbers.proofs.Deciding.{T_true}
 use Rattle.setups.specs.Clauses.{push, clauses}
 use Rattle.setups.specs.Refusals.{ended}
@@ -19,7 +26,6 @@ use Rattle.digits.specs.Digits.{digits}
 use Rattle.digits.proofs.Stores.{sets_append}
 use Rattle.frames.specs.Frames.{line_feed, line, header_kind, hard_kind, soft_kind, end_kind}
 use Rattle.write.specs.SetupText.{clause_lines, setup_text, literal_count, text_length}
-use Rattle.write.specs.Code.ClauseAt.{first_clause}
 
 -- ---- how long they are
 
@@ -38,16 +44,20 @@ lines_length kind (c ∷ cs) =
 
 -- ---- the first clause of bytes that end in 0
 
-pub first_end : (b : ℕ) (bytes : List ℕ) → b ≡ 0 → first_clause (b ∷ bytes) ≡ []
-first_end b bytes e = rw e
+-- a byte 0 ends a clause
+abbrev pub is_end : ℕ → Bool
+is_end b = eqb b 0
 
-pub first_literal : (b : ℕ) (bytes : List ℕ) → b ≢ 0 → first_clause (b ∷ bytes) ≡ b ∷ first_clause bytes
-first_literal zero bytes h = absurd (h refl)
-first_literal (suc b) bytes h = refl
+-- the place of the first end
+abbrev pub first_end : List ℕ → ℕ
+first_end bytes = position_or_len is_end bytes
+
+no_end_first : (b : ℕ) (bytes : List ℕ) → first_end (suc b ∷ bytes) ≡ suc (first_end bytes)
+no_end_first b bytes = rw (ne_eqb (suc b) 0 (λ e. let z : ⊥ = omega arith in z)) (omega arith)
 
 pub record First (bytes : List ℕ) : Type 0 where
-  pub inside : length (first_clause bytes) < length bytes
-  pub splits : clauses bytes ≡ first_clause bytes ∷ clauses (drop (suc (length (first_clause bytes))) bytes)
+  pub inside : first_end bytes < length bytes
+  pub splits : clauses bytes ≡ take (first_end bytes) bytes ∷ clauses (drop (suc (first_end bytes)) bytes)
 
 pub first_of : (bytes : List ℕ) (b : ℕ) → ended (b ∷ bytes) ≡ true → First (b ∷ bytes)
 first_of [] zero e = record { inside = omega arith; splits = refl }
@@ -55,7 +65,11 @@ first_of [] (suc b) e = absurd (literal_goes_on b ((T_true (ended (suc b ∷ [])
 first_of (d ∷ bytes) zero e = record { inside = omega arith; splits = refl }
 first_of (d ∷ bytes) (suc b) e =
     let rest = first_of bytes d e in
-    record { inside = omega (arith, rest.inside); splits = ap (push (suc b)) rest.splits }
+    record { inside = omega (arith, rest.inside, no_end_first b (d ∷ bytes)); splits = rw (no_end_first b (d ∷ bytes)) (ap (push (suc b)) rest.splits) }
+
+pub first_of_some : (bytes : List ℕ) → 0 < length bytes → ended bytes ≡ true → First bytes
+first_of_some [] more e = absurd (let b : ⊥ = omega arith in b)
+first_of_some (b ∷ bytes) more e = first_of bytes b e
 
 one_literal_more : (b : ℕ) (cs : List (List ℕ)) (c : List ℕ) (rest : List (List ℕ)) → cs ≡ c ∷ rest → literal_count (push b cs) ≡ suc (literal_count cs)
 one_literal_more b cs c rest e = rw e (omega arith)
@@ -78,62 +92,53 @@ ended_drop [] (suc i) e = refl
 ended_drop (b ∷ []) (suc i) e = rw (drop-nil i)
 ended_drop (b ∷ c ∷ bytes) (suc i) e = ended_drop (c ∷ bytes) i e
 
--- ---- storing a clause's line: its kind first
+-- ---- a piece of the bytes that is cut off after its first end is a clause with that end
 
-pub kind_stored : (text after bytes : List ℕ) (at kind : ℕ) → after ≡ sets text at (digits (kind ∷ [])) → sets after (at + 2) (line bytes) ≡ sets text at (line (kind ∷ bytes))
-kind_stored text after bytes at kind e = rw (e, add-two at)
+-- what is left after it is ended too
+pub record Cut (bytes piece rest : List ℕ) : Type 0 where
+  pub splits : clauses bytes ≡ take (length piece - 1) piece ∷ clauses rest
+  pub left_ended : ended rest ≡ true
 
--- then the literals: those from place i on are still to be stored
+-- the first end is where the cut is
+first_end_at : (bytes : List ℕ) (i : ℕ) → First bytes → IsFirstMatchOrLen is_end bytes i → i ≡ first_end bytes
+first_end_at bytes i f h =
+    let inside = f.inside in
+    let upto : ¬ (first_end bytes < i) = λ l. true≢false (sym (passes_at_first is_end bytes 0 inside) ∙ h.0 (first_end bytes) 0 zero-le l) in
+    let fits : i ≤ length bytes = omega arith in
+    sym (position_or_len_is is_end bytes i 0 fits (λ k l. h.0 k 0 zero-le l) (λ l. h.1 l 0))
 
-module _ (bytes : List ℕ) (i : ℕ) (l : i < length bytes) where
-  -- the clause ends here
-  pub no_literal_lem : get_or bytes i 0 ≡ 0 → first_clause (drop i bytes) ≡ []
-  no_literal_lem z = ap first_clause (front bytes i l) ∙ first_end (get_or bytes i 0) (drop (i + 1) bytes) z
+cut : (bytes piece rest : List ℕ) (i : ℕ) → bytes ≡ piece ++ rest → length piece ≡ min (i + 1) (length bytes) → IsFirstMatchOrLen is_end bytes i
+    → 0 < length bytes → ended bytes ≡ true → Cut bytes piece rest
+cut bytes piece rest i e l h more ends =
+    let f = first_of_some bytes more ends in
+    let inside = f.inside in
+    let at : i ≡ first_end bytes = first_end_at bytes i f h in
+    let size : suc (first_end bytes) ≡ length piece = omega (arith, l) in
+    let seam : first_end bytes ≡ length piece - 1 = omega (arith, size) in
+    let this : take (first_end bytes) bytes ≡ take (length piece - 1) piece = rw (seam, e) (take-append-le (length piece - 1) piece rest (omega arith)) in
+    let others : drop (suc (first_end bytes)) bytes ≡ rest = rw (size, e) (drop-append_seam piece rest) in
+    record { splits = f.splits ∙ rw (this, others); left_ended = rw others at (ended_drop bytes (suc (first_end bytes)) ends) }
 
-  pub a_literal : get_or bytes i 0 ≢ 0 → first_clause (drop i bytes) ≡ get_or bytes i 0 ∷ first_clause (drop (i + 1) bytes)
-  a_literal h = ap first_clause (front bytes i l) ∙ first_literal (get_or bytes i 0) (drop (i + 1) bytes) h
+-- one piece of `split_inclusive`, by a closure g that answers whether a byte is an end
+pub cut_next : {F : Type 0} (g : Mut F (Bor ℕ × Unit {0}) Bool) (f f' : F) (bytes piece rest : List ℕ)
+    → ((f : F) (a : Bor ℕ × Unit {0}) (r : Bool) (f' : F) → Called g f a r f' → r ≡ is_end a.0.now)
+    → (bytes ≡ piece ++ rest) × ((i : ℕ) × (length piece ≡ min (i + 1) (length bytes)) × ((p : ℕ → Bool) → ComputesKey g p f → ComputesKey g p f' × IsFirstMatchOrLen p bytes i)) × (0 < length bytes)
+    → ended bytes ≡ true → Cut bytes piece rest
+cut_next g f f' bytes piece rest answers steps ends =
+    let first = steps.1.2 is_end (answers_always g (λ a r. r ≡ is_end a.0.now) f answers) in
+    cut bytes piece rest steps.1.0 steps.0 steps.1.1 first.1 steps.2 ends
 
-  -- one is stored, the others are still to be
-  pub literal_stored : (text after : List ℕ) (to : ℕ) → get_or bytes i 0 ≢ 0 → after ≡ sets text to (digits (get_or bytes i 0 ∷ [])) → sets after (to + 2) (line (first_clause (drop (i + 1) bytes))) ≡ sets text to (line (first_clause (drop i bytes)))
-  literal_stored text after to h e = rw (e, a_literal h, add-two to)
+-- ---- storing the lines of clauses: the first one's, and then the others'
 
-  -- the line's end is stored where no literal is left
-  pub feed_stored : (text : List ℕ) (to : ℕ) → get_or bytes i 0 ≡ 0 → set text to line_feed ≡ sets text to (line (first_clause (drop i bytes)))
-  feed_stored text to z = rw (no_literal_lem z)
+module _ (kind : ℕ) (cs : List (List ℕ)) (c : List ℕ) (rest : List (List ℕ)) (splits : cs ≡ c ∷ rest) where
+  pub first_takes : length (clause_lines kind cs) ≡ 2 * length c + 3 + length (clause_lines kind rest)
+  first_takes = rw splits (length-append (line (kind ∷ c)) (clause_lines kind rest) ∙ omega (arith, line_length (kind ∷ c)))
 
-  -- ---- storing a buffer's lines: the clauses from place i on are still to be stored
-
-  module _ (e : ended bytes ≡ true) where
-    next_clause : First (drop i bytes)
-    next_clause = rw (front bytes i l) (first_of (drop (i + 1) bytes) (get_or bytes i 0) (let d = ended_drop bytes i e in rw (front bytes i l) at d))
-
-    pub clause_inside : i + length (first_clause (drop i bytes)) < length bytes
-    clause_inside = omega (arith, next_clause.inside, length-drop i bytes)
-
-    clause_splits : clauses (drop i bytes) ≡ first_clause (drop i bytes) ∷ clauses (drop (i + (length (first_clause (drop i bytes)) + 1)) bytes)
-    clause_splits = next_clause.splits ∙ rw (drop-drop, add-one)
-
-    -- the clauses after this one, whose literals are r
-    after_clause : ℕ → List (List ℕ)
-    after_clause r = clauses (drop (i + (r + 1)) bytes)
-
-    pub clause_takes : (kind r : ℕ) → r ≡ length (first_clause (drop i bytes)) → length (clause_lines kind (clauses (drop i bytes))) ≡ 2 * r + 3 + length (clause_lines kind (clauses (drop (i + (r + 1)) bytes)))
-    unfolding after_clause
-    clause_takes kind r q =
-        let this = line (kind ∷ first_clause (drop i bytes)) in
-        rw q (ap (λ (cs : List (List ℕ)). length (clause_lines kind cs)) clause_splits ∙ length-append this (clause_lines kind (after_clause (length (first_clause (drop i bytes))))) ∙ omega (arith, line_length (kind ∷ first_clause (drop i bytes))))
-
-    pub clause_stored : (kind r : ℕ) → r ≡ length (first_clause (drop i bytes)) → (text after : List ℕ) (to : ℕ) → after ≡ sets text to (line (kind ∷ first_clause (drop i bytes)))
-        → sets after (to + (2 * r + 3)) (clause_lines kind (clauses (drop (i + (r + 1)) bytes))) ≡ sets text to (clause_lines kind (clauses (drop i bytes)))
-    unfolding after_clause
-    clause_stored kind r q text after to st =
-        let this = line (kind ∷ first_clause (drop i bytes)) in
-        let size : to + (2 * length (first_clause (drop i bytes)) + 3) ≡ to + length this = omega (arith, line_length (kind ∷ first_clause (drop i bytes))) in
-        rw (q, st, size) (sym (sets_append text this (clause_lines kind (after_clause (length (first_clause (drop i bytes))))) to) ∙ ap (λ (cs : List (List ℕ)). sets text to (clause_lines kind cs)) (sym clause_splits))
-
--- none is left
-pub no_clause : (bytes : List ℕ) (i : ℕ) → length bytes ≤ i → clauses (drop i bytes) ≡ []
-no_clause bytes i l = rw (drop_of_length-le bytes l)
+  pub first_stored : (text after : List ℕ) (to : ℕ) → after ≡ sets text to (line (kind ∷ c)) → sets after (to + (2 * length c + 3)) (clause_lines kind rest) ≡ sets text to (clause_lines kind cs)
+  first_stored text after to e =
+      let this = line (kind ∷ c) in
+      let size : to + (2 * length c + 3) ≡ to + length this = omega (arith, line_length (kind ∷ c)) in
+      rw (splits, e, size) (sym (sets_append text this (clause_lines kind rest) to))
 
 -- ---- the whole text
 
@@ -153,25 +158,22 @@ module _ (count : ℕ) (hard soft : List ℕ) where
 then_stored : (t after again xs ys : List ℕ) (at : ℕ) → after ≡ sets t 0 xs → at ≡ length xs → again ≡ sets after at ys → again ≡ sets t 0 (xs ++ ys)
 then_stored t after again xs ys at e l a = a ∙ rw (e, l, sets_append t xs ys 0, zero-add (length xs))
 
-module _ (count : ℕ) (hard soft t t₁ t₂ t₃ t₄ t₅ : List ℕ) (after_hard after_soft : ℕ) where
+module _ (count : ℕ) (hard soft t t₁ t₂ t₃ t₄ : List ℕ) (after_hard after_soft : ℕ) where
   -- the header, the clauses and FF, stored one after the other
-  pub setup_stored : t₁ ≡ sets t 0 (digits (header_kind ∷ []))
-      → t₂ ≡ sets t₁ 2 (digits (count ∷ []))
+  pub setup_stored : t₁ ≡ sets t 0 (line (header_kind ∷ count ∷ []))
       → after_hard ≡ 5 + length (clause_lines hard_kind (clauses hard))
-      → t₃ ≡ sets (set t₂ 4 line_feed) 5 (clause_lines hard_kind (clauses hard))
+      → t₂ ≡ sets t₁ 5 (clause_lines hard_kind (clauses hard))
       → after_soft ≡ after_hard + length (clause_lines soft_kind (clauses soft))
-      → t₄ ≡ sets t₃ after_hard (clause_lines soft_kind (clauses soft))
-      → t₅ ≡ sets t₄ after_soft (digits (end_kind ∷ []))
-      → set t₅ (after_soft + 2) line_feed ≡ sets t 0 (setup_text count hard soft)
+      → t₃ ≡ sets t₂ after_hard (clause_lines soft_kind (clauses soft))
+      → t₄ ≡ sets t₃ after_soft (line (end_kind ∷ []))
+      → t₄ ≡ sets t 0 (setup_text count hard soft)
   unfolding setup_text
-  setup_stored e₁ e₂ a e₃ b e₄ e₅ =
+  setup_stored e₁ b e₂ c e₃ e₄ =
       let first = line (header_kind ∷ count ∷ []) in
       let h = clause_lines hard_kind (clauses hard) in
       let s = clause_lines soft_kind (clauses soft) in
       let last = line (end_kind ∷ []) in
-      let header : set t₂ 4 line_feed ≡ sets t 0 first = rw (e₂, e₁) in
-      let hards : t₃ ≡ sets t 0 (first ++ h) = then_stored t _ t₃ first h 5 header refl e₃ in
-      let softs : t₄ ≡ sets t 0 (first ++ h ++ s) = then_stored t t₃ t₄ (first ++ h) s after_hard hards (a ∙ sym (length-append first h)) e₄ in
-      let ends : set t₅ (after_soft + 2) line_feed ≡ sets t 0 (first ++ h ++ s ++ last) =
-      then_stored t t₄ _ (first ++ h ++ s) last after_soft softs (omega (arith, length-append h s)) (rw (e₅, add-two after_soft)) in
+      let hards : t₂ ≡ sets t 0 (first ++ h) = then_stored t t₁ t₂ first h 5 e₁ refl e₂ in
+      let softs : t₃ ≡ sets t 0 (first ++ h ++ s) = then_stored t t₂ t₃ (first ++ h) s after_hard hards (omega (arith, length-append first h)) e₃ in
+      let ends : t₄ ≡ sets t 0 (first ++ h ++ s ++ last) = then_stored t t₃ t₄ (first ++ h ++ s) last after_soft softs (omega (arith, length-append h s)) e₄ in
       ends ∙ ap (λ (rest : List ℕ). sets t 0 (first ++ rest)) (append_assoc h s last)

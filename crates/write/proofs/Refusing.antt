@@ -1,25 +1,29 @@
 -- Write's refusals: what a setup has that passes them all, and the answer that each leads to.
-use mathlib.Core.Path.{◌≡◌, sym}
-use mathlib.Core.Bool.{◌||◌}
+use mathlib.Core.Path.{◌≡◌, refl, sym, ◌∙◌}
+use mathlib.Core.Bool.{Bool, true, not, ◌||◌}
 use mathlib.Core.List.{List, ◌++◌}
-use Prim.Native.Nat.{ℕ, ◌≤◌, ◌<◌}
+use Prim.Native.Nat.{ℕ, ◌+◌, ◌≤◌, ◌<◌}
 use borrow.Author.Tests.{lt-ltb, le-ltb, ltb-false, eqb-true, ne_eqb}
+use native.Mathlib.Omega.{arith}
 use lib.Dec.{ltb, eqb}
 use lib.ListN.{length, drop}
 use lib.Seq.{sets}
 use Rattle.numbers.proofs.Deciding.{cond_case, neither}
+use Rattle.std.proofs.Common.{Ok, Err}
 use Rattle.setups.specs.declared.Refusal.{Refusal}
-use Rattle.setups.specs.declared.Refusal.TheVariants.{Vars, Size, Room}
-use Rattle.setups.specs.Limits.{variables_most, hard_bytes_most, soft_bytes_most}
-use Rattle.setups.specs.Refusals.{number_of, finished, check, clauses_refusal}
+use Rattle.setups.specs.declared.Refusal.TheVariants.{Vars, Size, Literal, Tail, Long, Softs, Room}
+use Rattle.setups.specs.Limits.{variables_most, hard_bytes_most, soft_bytes_most, settings_most}
+use Rattle.setups.specs.Clauses.{clauses}
+use Rattle.setups.specs.Setups.{settings}
+use Rattle.setups.specs.Refusals.{number_of, finished, check, no_clause_byte, offends, ended, long, clauses_refusal}
 use Rattle.setups.proofs.Refusals.{refused_number, check_none}
 use Rattle.setups.proofs.JudgeLaws.{FineClauses, fine_clauses}
 use Rattle.digits.proofs.Stores.{sets_front}
-use Rattle.write.specs.declared.Writing.TheVariants.{Written, Refused}
-use Rattle.write.specs.SetupText.{setup_text, text_length}
+use Rattle.write.specs.declared.JudgedSetup.{JudgedSetup}
+use Rattle.write.specs.SetupText.{literal_count, setup_text, text_length}
 use Rattle.write.specs.Write.{WriteResult, setup_refusal, write_refusal, write_result}
 use Rattle.write.specs.Writing.{answered}
-use Rattle.write.proofs.ClauseLines.{measured}
+use Rattle.write.proofs.ClauseLines.{literals_and_ends, written_length, measured, setup_stored}
 
 -- ---- a setup that passes
 
@@ -42,14 +46,60 @@ fine n hard soft rest e =
       in_clauses = fine_clauses n hard soft rest size.1;
     }
 
+pub ended_hard : (s : JudgedSetup) → ended s.hard.now ≡ true
+ended_hard s = (fine s.count s.hard.now s.soft.now 0 s.passes).in_clauses.hard_ended
+
+pub ended_soft : (s : JudgedSetup) → ended s.soft.now ≡ true
+ended_soft s = (fine s.count s.hard.now s.soft.now 0 s.passes).in_clauses.soft_ended
+
+-- then every byte is a literal of some clause, or ends one
+pub hard_bytes : (s : JudgedSetup) → length (clauses s.hard.now) + literal_count (clauses s.hard.now) ≡ length s.hard.now
+hard_bytes s = omega (arith, literals_and_ends s.hard.now (ended_hard s))
+
+pub soft_bytes : (s : JudgedSetup) → length (clauses s.soft.now) + literal_count (clauses s.soft.now) ≡ length s.soft.now
+soft_bytes s = omega (arith, literals_and_ends s.soft.now (ended_soft s))
+
+pub hard_most : (s : JudgedSetup) → length s.hard.now ≤ hard_bytes_most
+hard_most s = (fine s.count s.hard.now s.soft.now 0 s.passes).hard_size
+
+pub soft_most : (s : JudgedSetup) → length s.soft.now ≤ soft_bytes_most
+soft_most s = (fine s.count s.hard.now s.soft.now 0 s.passes).soft_size
+
+pub ruleset sizes = (hard_bytes, soft_bytes, hard_most, soft_most)
+
+-- what its text needs to be put
+pub ruleset stores = (ended_hard, ended_soft, written_length, setup_stored)
+
+-- what comes after the refusals is what a setup gets that passes them
+go_on : (test : Bool) (refusal : Refusal) (after : ℕ → ℕ) → (after 0 ≡ 0 → (rest : ℕ) → rest ≡ after rest) → check test refusal (after 0) ≡ 0 → (rest : ℕ) → rest ≡ check test refusal (after rest)
+go_on test refusal after h e rest =
+    let p = check_none test refusal (after 0) e in
+    h p.1 rest ∙ rw p.0
+
+passed : (s : JudgedSetup) (rest : ℕ) → rest ≡ setup_refusal s.count s.hard.now s.soft.now rest
+passed s =
+    let n = s.count in
+    let hard = s.hard.now in
+    let soft = s.soft.now in
+    let softs = λ (r : ℕ). check (ltb settings_most (length (settings soft))) Softs r in
+    let long_on = λ (r : ℕ). check (long hard || long soft) Long (softs r) in
+    let tail_on = λ (r : ℕ). check (not (ended hard) || not (ended soft)) Tail (long_on r) in
+    let size = ltb hard_bytes_most (length hard) || ltb soft_bytes_most (length soft) in
+    go_on (ltb variables_most n) Vars (λ r. check size Size (clauses_refusal n hard soft r))
+    (go_on size Size (clauses_refusal n hard soft)
+    (go_on (offends (no_clause_byte n) hard || offends (no_clause_byte n) soft) Literal tail_on
+    (go_on (not (ended hard) || not (ended soft)) Tail long_on
+    (go_on (long hard || long soft) Long softs
+    (go_on (ltb settings_most (length (settings soft))) Softs (λ r. r) (λ _ r. refl)))))) s.passes
+
 -- ---- from the judgement to Write's answer
 
 module _ (n : ℕ) (hard soft text : List ℕ) where
-  refused : (refusal : Refusal) → number_of refusal ≡ write_refusal n hard soft (length text) → answered (Refused refusal) text ≡ write_result n hard soft text
+  refused : (refusal : Refusal) → number_of refusal ≡ write_refusal n hard soft (length text) → answered (Err refusal) text ≡ write_result n hard soft text
   unfolding write_result
   refused refusal e = rw (← e, ne_eqb (number_of refusal) 0 (refused_number refusal))
 
-  pub unfit : (refusal : Refusal) → ((rest : ℕ) → number_of refusal ≡ setup_refusal n hard soft rest) → answered (Refused refusal) text ≡ write_result n hard soft text
+  pub unfit : (refusal : Refusal) → ((rest : ℕ) → number_of refusal ≡ setup_refusal n hard soft rest) → answered (Err refusal) text ≡ write_result n hard soft text
   unfit refusal h = refused refusal (h (check (ltb (length text) (text_length hard soft)) Room 0))
 
   -- Write finishes where it refuses nothing
@@ -63,11 +113,19 @@ module _ (n : ℕ) (hard soft text : List ℕ) where
   unfolding write_result
   finishes e = rw e
 
-  module _ (h : (rest : ℕ) → rest ≡ setup_refusal n hard soft rest) where
-    pub no_room : length text < text_length hard soft → answered (Refused Room) text ≡ write_result n hard soft text
-    no_room l = refused Room (rw (← h (check (ltb (length text) (text_length hard soft)) Room 0), lt-ltb (length text) (text_length hard soft) l))
+-- a setup that passes what is judged
+module _ (s : JudgedSetup) (text : List ℕ) where
+  pub no_room : length text < text_length s.hard.now s.soft.now → answered (Err Room) text ≡ write_result s.count s.hard.now s.soft.now text
+  no_room l =
+      refused s.count s.hard.now s.soft.now text Room
+      (rw (← passed s (check (ltb (length text) (text_length s.hard.now s.soft.now)) Room 0), lt-ltb (length text) (text_length s.hard.now s.soft.now) l))
 
-    pub wrote : (filled : ℕ) (after : List ℕ) → filled ≡ text_length hard soft → text_length hard soft ≤ length text → after ≡ sets text 0 (setup_text n hard soft) → answered (Written filled) after ≡ write_result n hard soft text
-    wrote filled after e l a =
-        rw (e, a, sets_front text (setup_text n hard soft) (rw (measured n hard soft) at l))
-        (sym (finishes (rw (← h (check (ltb (length text) (text_length hard soft)) Room 0), le-ltb (length text) (text_length hard soft) l))))
+  pub wrote : (filled : ℕ) (after : List ℕ) → filled ≡ text_length s.hard.now s.soft.now → filled ≤ length text → after ≡ sets text 0 (setup_text s.count s.hard.now s.soft.now)
+      → answered (Ok filled) after ≡ write_result s.count s.hard.now s.soft.now text
+  wrote filled after e l a =
+      let fits : text_length s.hard.now s.soft.now ≤ length text = rw (← e) l in
+      rw (e, a, sets_front text (setup_text s.count s.hard.now s.soft.now) (rw (measured s.count s.hard.now s.soft.now) at fits))
+      (sym (finishes s.count s.hard.now s.soft.now text (rw (← passed s (check (ltb (length text) (text_length s.hard.now s.soft.now)) Room 0), le-ltb (length text) (text_length s.hard.now s.soft.now) fits))))
+
+-- each of Write's answers
+pub ruleset answers = (unfit, measured, no_room, wrote)

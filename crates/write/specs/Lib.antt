@@ -2,5 +2,3 @@
 pub mod SetupText
 pub mod Write
 pub mod Writing
--- a clause in a buffer, by its place
-pub mod Code

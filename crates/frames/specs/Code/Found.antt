@@ -1,8 +1,10 @@
 -- What the reader's steps find in a text: bytes in pairs of digits, and at a place of the text its frame, in numbers.
-use Rattle.std.specs.Prelude.{◌≡◌, refl, cond, ◌&&◌, List, [], ◌∷◌, ℕ, zero, suc, ◌+◌, ◌*◌, length, get_or, drop}
+use Rattle.std.specs.Prelude.{◌≡◌, refl, cond, ◌&&◌, List, [], ◌∷◌, ℕ, zero, suc, ◌+◌, ◌*◌, length, get_or, drop, Option, Some, None}
+use Rattle.std.specs.Option.{option_map}
 use Rattle.digits.specs.Digits.{between, is_digit, byte_of}
+use Rattle.frames.specs.declared.frames.Frame.{Frame as ToldFrame}
+use Rattle.frames.specs.declared.frames.Frame.TheVariants.{Header, Hard, Soft, End}
 use Rattle.frames.specs.declared.frames.Found.{Found}
-use Rattle.frames.specs.declared.frames.Found.TheVariants.{Header, Hard, Soft, End, NoFrame}
 use Rattle.frames.specs.Frames.{lines, Frame, header, hard, soft, end, no_frame, frame, frame_bytes}
 
 -- how many pairs of digits the text begins with
@@ -25,26 +27,27 @@ example_pairs = (refl, refl)
 abbrev pub place_after : ℕ → Frame → ℕ
 place_after at f = at + (2 * length (frame_bytes f) + 1)
 
--- a frame at a place of the text: the variable count, or how many literals there are, and the place after its line
-abbrev pub found : ℕ → Frame → Found
-found at (header count) = Header count (place_after at (header count))
-found at (hard literals) = Hard (length literals) (place_after at (hard literals))
-found at (soft literals) = Soft (length literals) (place_after at (soft literals))
-found at end = End (place_after at end)
-found at no_frame = NoFrame
+-- a frame in the code's form: the variable count, or how many literals there are
+abbrev pub told : Frame → Option ToldFrame
+told (header count) = Some (Header count)
+told (hard literals) = Some (Hard (length literals))
+told (soft literals) = Some (Soft (length literals))
+told end = Some End
+told no_frame = None
+
+-- a frame at a place of the text, with the place after its line
+abbrev pub found : ℕ → Frame → Option Found
+found at f = option_map (λ frame. record { frame = frame; next = place_after at f }) (told f)
 
 -- the frame of the line that begins at `at`
-unfoldable pub found_at : List ℕ → ℕ → Found
+unfoldable pub found_at : List ℕ → ℕ → Option Found
 found_at text at = found at (frame (get_or (lines (drop at text)) 0 []))
 
 -- where a reader goes on that found this at `at`: where no frame stands, it stays
-abbrev pub next_place : ℕ → Found → ℕ
-next_place at (Header count next) = next
-next_place at (Hard literals next) = next
-next_place at (Soft literals next) = next
-next_place at (End next) = next
-next_place at NoFrame = at
+abbrev pub next_place : ℕ → Option Found → ℕ
+next_place at (Some here) = here.next
+next_place at None = at
 
 -- after 2081 and LF, found at 5, the next line begins at 10
-example_next : (next_place 5 (Hard 1 10) ≡ 10) × (next_place 5 NoFrame ≡ 5)
+example_next : (next_place 5 (found 5 (hard (129 ∷ []))) ≡ 10) × (next_place 5 None ≡ 5)
 example_next = (refl, refl)

@@ -8,7 +8,7 @@ returns-then-at_most_one c =
     let a = c.args in
     alone_one a.member a.taken (c.at_most_one.ensures.0 c.if-at_most_one.true)
 
-pub returns : goal.returns
-returns c =
+pub returns-else-at_most_one : goal.returns-else-at_most_one
+returns-else-at_most_one c =
     let a = c.args in
     alone_several a.member a.taken (refuted c.at_most_one.ensures c.if-at_most_one.false)

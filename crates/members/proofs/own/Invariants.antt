@@ -1,11 +1,6 @@
--- `members::own` meets its contract: the settings found so far, and those that the members from place i on give, are the whole.
-use Prim.Native.Nat.{◌-◌, ◌≤◌}
-use lib.ListN.{length}
+-- `members::own` meets its contract: the settings found so far, and those that the members from here on give, are the whole.
 use Rattle.members.proofs.Members.{OwnSoFar}
 use Rattle.members.proofs.own.Given as goal
 
-abbrev pub invariant-loop-i : goal.invariant-loop-i
-invariant-loop-i l = (l.i ≤ length l.members) × OwnSoFar l.members l.taken l.found l.i
-
-abbrev pub decreases-loop-i : goal.decreases-loop-i
-decreases-loop-i l = length l.members - l.i
+abbrev pub invariant-loop-member : goal.invariant-loop-member
+invariant-loop-member l = OwnSoFar l.members l.taken l.found l.member-index

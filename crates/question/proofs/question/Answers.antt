@@ -2,31 +2,31 @@
 use mathlib.Core.Path.{◌≡◌, ◌∙◌, ap}
 use Prim.Native.Nat.{ℕ, ◌-◌, ◌^◌, min}
 use Rattle.setups.specs.Limits.{settings_most}
-use Rattle.setups.specs.Setups.{setup, count}
+use Rattle.setups.specs.Setups.{count}
+use Rattle.question.specs.Question.{setup_of}
 use Rattle.question.proofs.Answers.{given_below, no_start, no_model_lem, yes_model}
 use Rattle.question.proofs.question.Goals as goal
 use Rattle.question.proofs.question.Goals.{After-full-all}
 
 -- `full` gives the set of all settings
-every : (c : After-full-all) →
-    let a = c.args in
-    c.full-all.result ≡ 2 ^ min (count (setup a.count a.hard.now a.soft.now)) settings_most - 1
-every c = c.full-all.ensures ∙ ap (λ (x : ℕ). 2 ^ min x settings_most - 1) c.settings_count.ensures
+every : (c : After-full-all) → c.full-all.result ≡ 2 ^ min (count (setup_of c.args.taken.now)) settings_most - 1
+every c = c.full-all.ensures ∙ ap (λ (x : ℕ). 2 ^ min x settings_most - 1) c.args.taken.now.counted
 
-pub give_up-start-requires : goal.give_up-start-requires
-give_up-start-requires c =
-    given_below _ c.requires _ (every (goal.at.give_up-start-requires c).After-full-all) c.args.given
+pub give_up-requires : goal.give_up-requires
+give_up-requires c =
+    given_below c.args.taken.now c.args.found _ (every (goal.at.give_up-requires c).After-full-all) c.args.given
 
-pub returns-then-start : goal.returns-then-start
-returns-then-start c =
-    no_start _ c.requires _ (every (goal.at.returns-then-start c).After-full-all) _ _ _ _ c.opening.ensures _ c.give_up-start.ensures c.if-start.true
+pub returns-in_err-start : goal.returns-in_err-start
+returns-in_err-start c =
+    rw c.from_residual.ensures
+    (no_start c.args.taken.now c.args.found _ (every (goal.at.returns-in_err-start c).After-full-all) _ _ _ c.opening.ensures c.in_err-start.ensures)
 
-pub returns-then-sought : goal.returns-then-sought
-returns-then-sought c =
-    no_model_lem _ c.requires _ (every (goal.at.returns-then-sought c).After-full-all) _ _ _ _ c.opening.ensures _ c.give_up-start.ensures _
-    c.seek-sought.ensures c.if-sought.true
+pub returns-in_err-reached : goal.returns-in_err-reached
+returns-in_err-reached c =
+    rw c.from_residual-in_err-reached.ensures
+    (no_model_lem c.args.taken.now c.args.found _ (every (goal.at.returns-in_err-reached c).After-full-all) _ _ _ c.opening.ensures c.in_ok-start.ensures
+    c.in_err-reached.ensures)
 
 pub returns : goal.returns
 returns c =
-    yes_model _ c.requires _ (every (goal.at.returns c).After-full-all) _ c.args.given _ _ _ c.complete.ensures _ c.seek-sought.ensures
-    c.if-sought.false _ c.stand-standing.ensures
+    yes_model c.args.taken.now c.args.found _ (every (goal.at.returns c).After-full-all) _ c.args.given _ _ c.complete.ensures c.in_ok-reached.ensures _ c.stand.ensures

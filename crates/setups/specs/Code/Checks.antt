@@ -1,10 +1,13 @@
 -- The places at which the byte checks find their first offence, the buffer's length where there is none; and what is judged by them.
-use Rattle.std.specs.Prelude.{◌≡◌, refl, cond, List, [], ◌∷◌, ℕ, zero, suc, ◌-◌, eqb, leb, length}
+use Rattle.std.specs.Prelude.{◌≡◌, refl, cond, List, [], ◌∷◌, ℕ, zero, suc, ◌-◌, eqb, leb, ltb, length, Option, Some, None, Result, Ok, Err}
 use Rattle.setups.specs.Limits.{literals_most}
-use Rattle.setups.specs.declared.judging.Judged.{Judged}
-use Rattle.setups.specs.declared.judging.Judged.TheVariants.{Taken, Unfit}
+use Rattle.setups.specs.declared.Refusal.{Refusal}
 use Rattle.setups.specs.Setups.{settings}
 use Rattle.setups.specs.Refusals.{number_of, ended, clauses_refusal}
+
+-- a place of the buffer as what a check answers: none where it is the length
+abbrev pub place_in : List ℕ → ℕ → Option ℕ
+place_in bytes place = cond (ltb place (length bytes)) (Some place) None
 
 -- Tail: the last byte, where it isn't 0
 abbrev pub tail_place : List ℕ → ℕ
@@ -29,11 +32,11 @@ example_places : (tail_place (1 ∷ 130 ∷ 0 ∷ 3 ∷ 0 ∷ 1 ∷ []) ≡ 5) �
 example_places = (refl, refl)
 
 -- what is judged of a setup's clauses, before what comes after
-abbrev pub judged_of : Judged → ℕ → ℕ
-judged_of (Taken settings) rest = rest
-judged_of (Unfit refusal) rest = number_of refusal
+abbrev pub judged_of : Result ℕ Refusal → ℕ → ℕ
+judged_of (Ok settings) rest = rest
+judged_of (Err refusal) rest = number_of refusal
 
 -- the first refusal of 4, 5, 6, 7; or none, and how many settings there are
-pub record Judges (n : ℕ) (hard soft : List ℕ) (answer : Judged) : Type 0 where
+pub record Judges (n : ℕ) (hard soft : List ℕ) (answer : Result ℕ Refusal) : Type 0 where
   pub first : (rest : ℕ) → judged_of answer rest ≡ clauses_refusal n hard soft rest
-  pub counts : (k : ℕ) → answer ≡ Taken k → k ≡ length (settings soft)
+  pub counts : (k : ℕ) → answer ≡ Ok k → k ≡ length (settings soft)

@@ -1,32 +1,26 @@
 -- `turn::give_out` meets its contract: the branch with nothing taken and every setting left holds the turn.
-use mathlib.Core.Path.{◌≡◌, ◌∙◌}
+use mathlib.Core.Path.{◌≡◌, refl, ◌∙◌}
 use Prim.Native.Nat.{◌-◌, ◌^◌, min}
 use native.Mathlib.Omega.{arith}
-use lib.ListN.{length}
+use Rattle.std.proofs.lemmas.Result.{err_from_is_err_and}
 use Rattle.setups.specs.Limits.{settings_most}
-use Rattle.turn.specs.Code.Branches.{Branch}
-use Rattle.turn.specs.Code.Growing.{Grown}
 use Rattle.turn.proofs.Ends.{gives_list, gives_too_many}
 use Rattle.turn.proofs.give_out.Goals as goal
-use Rattle.turn.proofs.give_out.Goals.{After-branch-found}
+use Rattle.turn.proofs.give_out.Goals.{After-full}
 
--- the scratch has grown by the whole branch
-grown : (c : After-branch-found) →
-    (let a = c.args in
-    Grown (Branch a.given.now 0 (2 ^ a.count - 1)) 0 (length a.list.now) a.scratch.now c.branch-found.result c.branch-found.new.scratch)
-grown c =
-    let a = c.args in
-    let few : min a.count settings_most ≡ a.count = omega (arith, c.requires) in
-    let all : c.full.result ≡ 2 ^ a.count - 1 = c.full.ensures ∙ rw few in
-    rw all at c.branch-found.ensures
+-- every setting up to the count is left
+all : (c : After-full) → c.full.result ≡ 2 ^ c.args.count - 1
+all c =
+    let few : min c.args.count settings_most ≡ c.args.count = omega (arith, c.requires) in
+    c.full.ensures ∙ rw few
 
-pub returns-then-room-found : goal.returns-then-room-found
-returns-then-room-found c =
-    let a = c.args in
-    gives_too_many a.count a.list.now (grown (goal.at.returns-then-room-found c).After-branch-found) c.branch-found.auto.scratch c.requires.1 c.if-room-found.true c.clear.ensures
+pub returns-in_err-search : goal.returns-in_err-search
+returns-in_err-search c =
+    let refused = err_from_is_err_and c.from_residual.result c.from_residual.ensures.1 in
+    let e = all (goal.at.returns-in_err-search c).After-full in
+    rw (refused.1, refused.2, c.in_err-search.ensures.0) (gives_too_many c.args.count c.new-found.ensures.none (c.new-found.ensures.room ∙ c.requires.1) (rw e at c.in_err-search.ensures.1))
 
 pub returns : goal.returns
 returns c =
-    let a = c.args in
-    gives_list a.count a.list.now (grown (goal.at.returns c).After-branch-found) c.branch-found.auto.scratch c.requires.1
-    c.if-room-found.false c.copy_out.ensures c.clear-2.ensures
+    let e = all (goal.at.returns c).After-full in
+    rw (c.copy_from_slice.ensures.after, c.sets-turned.ensures) (gives_list c.args.count c.new-found.ensures.none (c.new-found.ensures.room ∙ c.requires.1) (rw e at c.in_ok-search.ensures) refl)

@@ -1,6 +1,16 @@
--- The scratch as it grows: its first places hold the sets found so far, rising, room + 1 of them at the most.
-use Rattle.std.specs.Prelude.{◌≡◌, refl, ◌⊎◌, List, [], ◌∷◌, ℕ, ◌+◌, ◌≤◌, ◌<◌, min, max, length, take}
+-- The sets found as they grow: the first of the lent places hold them, rising.
+use Rattle.std.specs.Prelude.{◌≡◌, refl, ◌⊎◌, Result, Ok, Err, List, [], ◌∷◌, ℕ, ◌<◌, min, max, length, take}
 use Rattle.sets.specs.Lists.{Among, Rising}
+use Rattle.setups.specs.declared.Refusal.{Refusal}
+use Rattle.setups.specs.declared.Refusal.TheVariants.{TooMany}
+use Rattle.turn.specs.declared.found.Found.{Found}
+
+-- the sets, and how many places there are
+abbrev pub sets_of : Found → List ℕ
+sets_of found = take found.filled found.places.now
+
+abbrev pub room_of : Found → ℕ
+room_of found = length found.places.now
 
 -- a set put into a rising list: each place keeps the smaller of what stands there and what is carried on, the end takes the last
 abbrev pub placed : ℕ → List ℕ → List ℕ
@@ -11,17 +21,33 @@ placed S (R ∷ list) = min S R ∷ placed (max S R) list
 example_placed : placed 6 (5 ∷ 10 ∷ []) ≡ 5 ∷ 6 ∷ 10 ∷ []
 example_placed = refl
 
--- what a search for the sets of a family is given: room for one set more, and `filled` sets, rising, none of them of the family
-pub record Ready (Family : ℕ → Type 0) (filled room : ℕ) (scratch : List ℕ) : Type 0 where
-  pub few : filled ≤ room
-  pub place : room < length scratch
-  pub rising : Rising (take filled scratch)
-  pub fresh : (S : ℕ) → Among S (take filled scratch) → ¬ Family S
+-- the set is put there; or it isn't, because every place is filled
+pub record Inserted (S : ℕ) (before after : Found) : Type 0 where
+  pub room : room_of after ≡ room_of before
+  pub sets : sets_of after ≡ placed S (sets_of before)
 
--- what it gives back: r sets, rising: those of before, and sets of the family besides, all of them unless there are more than the room
-pub record Grown (Family : ℕ → Type 0) (filled room : ℕ) (before : List ℕ) (r : ℕ) (after : List ℕ) : Type 0 where
-  pub most : r ≤ room + 1
-  pub rising : Rising (take r after)
-  pub kept : (S : ℕ) → Among S (take filled before) → Among S (take r after)
-  pub sound : (S : ℕ) → Among S (take r after) → Among S (take filled before) ⊎ Family S
-  pub whole : r ≤ room → (S : ℕ) → Family S → Among S (take r after)
+abbrev pub Inserts : ℕ → Found → Found → Result (Unit {0}) Refusal → Type 0
+Inserts S before after (Ok u) = Inserted S before after
+Inserts S before after (Err refusal) = (refusal ≡ TooMany) × (before.filled ≡ room_of before)
+
+-- what a search for the sets of a family is given: sets that were found before, none of them of the family
+pub record Ready (Family : ℕ → Type 0) (found : Found) : Type 0 where
+  pub fresh : (S : ℕ) → Among S (sets_of found) → ¬ Family S
+
+-- what it gives back: those, and the sets of the family besides
+pub record Added (Family : ℕ → Type 0) (before after : Found) : Type 0 where
+  pub room : room_of after ≡ room_of before
+  pub kept : (S : ℕ) → Among S (sets_of before) → Among S (sets_of after)
+  pub sound : (S : ℕ) → Among S (sets_of after) → Among S (sets_of before) ⊎ Family S
+  pub whole : (S : ℕ) → Family S → Among S (sets_of after)
+
+-- or there are more of them than places
+pub record Overfull (Family : ℕ → Type 0) (before : Found) : Type 0 where
+  pub sets : List ℕ
+  pub rising : Rising sets
+  pub sound : (S : ℕ) → Among S sets → Among S (sets_of before) ⊎ Family S
+  pub more : room_of before < length sets
+
+abbrev pub Grown : (ℕ → Type 0) → Found → Found → Result (Unit {0}) Refusal → Type 0
+Grown Family before after (Ok u) = Added Family before after
+Grown Family before after (Err refusal) = (refusal ≡ TooMany) × Overfull Family before

@@ -2,4 +2,4 @@
 use Rattle.walk.proofs.+walk.Given as goal
 
 abbrev pub decreases-walk : goal.decreases-walk
-decreases-walk l = l.node.left
+decreases-walk l = l.live.node.left

@@ -1,13 +1,6 @@
--- `walk::enter` meets its contract: each of the question's answers says what becomes of the branch.
-use mathlib.Core.Path.{refl}
+-- `enter` meets its contract: where the question has no answer the branch holds no way out.
 use Rattle.walk.proofs.Replies.{no_way_out}
 use Rattle.walk.proofs.enter.Goals as goal
 
-pub returns-in-Yes : goal.returns-in-Yes
-returns-in-Yes c =
-    let at = c.requires.reached in
-    let yes = c.in-Yes.ensures in
-    (record { reached = record { decided = at.decided; before = at.before }; model = yes.0; meets = yes.1; shows = yes.2 }, refl, refl)
-
-pub returns-in-No : goal.returns-in-No
-returns-in-No c = no_way_out c.requires.reached.decided c.requires.reached.before c.in-No.ensures
+pub returns-in_err-witness : goal.returns-in_err-witness
+returns-in_err-witness c = rw c.from_residual.ensures (no_way_out c.requires.decided c.requires.before c.in_err-witness.ensures)

@@ -1,23 +1,18 @@
--- `frames::frames::no_zero` meets its contract: the bytes from `at` on decide it.
-use mathlib.Core.Path.{◌≡◌, refl, ◌∙◌}
-use native.Mathlib.Omega.{arith}
-use Rattle.frames.proofs.Lines.{zero_first, zero_not_first}
+-- `frames::frames::no_zero` meets its contract: what is asked of each of the bytes.
+use mathlib.Core.Path.{refl, ◌∙◌}
+use mathlib.Core.Bool.{not}
+use Prim.Native.Nat.{◌+◌, ◌*◌}
+use lib.Dec.{eqb}
+use lib.ListN.{get_or}
+use Rattle.std.proofs.Common.{rules, arith}
+use borrow.Author.Tests.{tests}
+use Rattle.std.proofs.lemmas.Iterator.{YieldsList-from_range}
+use Rattle.std.proofs.lemmas.Iterator.Search.{all_from_yields_List}
+use Rattle.digits.specs.Digits.{byte_of}
+use Rattle.frames.proofs.Lines.{none_zero}
 use Rattle.frames.proofs.frames.no_zero.Goals as goal
-
-pub loop-left-init : goal.loop-left-init
-loop-left-init c = (refl, refl)
-
-pub returns-then-byte_at-eq0 : goal.returns-then-byte_at-eq0
-returns-then-byte_at-eq0 c =
-    let at = c.loop-left in
-    zero_first c.args.text.now at.at at.left _ c.loop-left-test.true c.byte_at.ensures c.if-byte_at-eq0.true ∙ at.invariant.1
-
-pub loop-left-preserved : goal.loop-left-preserved
-loop-left-preserved c =
-    let at = c.loop-left in
-    (omega arith, zero_not_first c.args.text.now at.at at.left _ c.loop-left-test.true c.byte_at.ensures c.if-byte_at-eq0.false ∙ at.invariant.1)
 
 pub returns : goal.returns
 returns c =
-    let none : c.loop-left.left ≡ 0 = omega arith in
-    (rw none) ∙ c.loop-left.invariant.1
+    let t = c.args.text.now in
+    all_from_yields_List (λ k. not (eqb (byte_of (get_or t (2 * k) 0) (get_or t (2 * k + 1) 0)) 0)) _ _ _ c.all.ensures.ran (YieldsList-from_range 0 c.args.count c.args.count refl (omega arith)) (λ x b q k. search (rules, tests)) ∙ none_zero t c.args.count 0

@@ -1,6 +1,0 @@
--- The measure of `seeking::seek`: the free values.
-use Rattle.setups.specs.Searching.{free_count}
-use Rattle.question.proofs.seeking.+seek.Given as goal
-
-abbrev pub decreases-seek : goal.decreases-seek
-decreases-seek l = free_count l.values

@@ -1,6 +1,0 @@
--- `main` is safe: what is put out lies within the output.
-use Rattle.resolve.proofs.Within.{put_within}
-use Rattle.waysout.proofs.main.Goals as goal
-
-pub slice_bounds-output-end : goal.slice_bounds-output-end
-slice_bounds-output-end c = put_within c.resolve-filled.ensures.0 _ c.resolve-filled.result _ c.resolve-filled.ensures.2

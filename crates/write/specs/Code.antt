@@ -1,2 +1,0 @@
--- What describes the code: the contracts of functions inside cite it, and nobody has to believe it.
-pub mod ClauseAt
