@@ -56,9 +56,6 @@ module _ (s : TakenSetup) (sets : Bor (List ℕ)) (all : ℕ) (every : all ≡ 2
       let w : Within S (2 ^ count g - 1) = λ i h. (full_in (count g) i).1 (inside i h) in
       omega (arith, within_le S (2 ^ count g - 1) w, pow_pos (count g))
 
-  pub given_below : (S : ℕ) → bit_and S all < 2 ^ count g
-  given_below S = below (bit_and S all) (λ i h. ((there S i).0 h).1)
-
   module _ (kept given : ℕ) where
     -- ---- no model
 
