@@ -4,7 +4,7 @@
 mod checks;
 
 ghost use Rattle.std.specs.Prelude.{◌≡◌, ◌+◌, length};
-ghost use Rattle.question.specs.Question.{setup_of};
+ghost use Rattle.setups.specs.Code.SetupOf.{setup_of};
 ghost use Rattle.list.specs.Code.Giving.{GivesWays};
 ghost use Rattle.list.specs.Listing.{Lists};
 

@@ -28,7 +28,8 @@ use Rattle.forcing.specs.Standings.{Stands}
 use Rattle.forcing.specs.declared.forcing.Progress.{Progress}
 use Rattle.forcing.specs.declared.standing.Standing.{Standing}
 use Rattle.forcing.proofs.ValueLaws.{agrees_opening}
-use Rattle.question.specs.Question.{setup_of, Meets, Breaks, Says}
+use Rattle.setups.specs.Code.SetupOf.{setup_of}
+use Rattle.question.specs.Question.{Meets, Breaks, Says}
 use Rattle.question.specs.Seeking.{Fulfils, Seeks}
 use Rattle.question.specs.declared.asked.Asked.{Asked}
 use Rattle.question.proofs.Bridge.{rules_true, holds_true}

@@ -21,10 +21,12 @@ fn pick<F: Fn(Selector) -> bool>(values: Values, owed: F, clauses: &[u8]) -> Opt
     let mut free = None;
     for &byte in clauses {
         if byte == 0 {
-            if touched && free.is_some() {
-                return free;
+            if free.is_some() {
+                if touched {
+                    return free;
+                }
+                untouched = untouched.or(free);
             }
-            untouched = untouched.or(free);
             selector = next_selector(selector);
             due = owed(selector);
             touched = false;

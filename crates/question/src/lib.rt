@@ -5,7 +5,8 @@ mod asked;
 mod choosing;
 mod seeking;
 
-ghost use Rattle.question.specs.Question.{setup_of, Says};
+ghost use Rattle.setups.specs.Code.SetupOf.{setup_of};
+ghost use Rattle.question.specs.Question.{Says};
 
 use asked::Asked;
 use forcing::{complete, give_up, stand};

@@ -4,7 +4,7 @@
 mod ways;
 
 ghost use Rattle.std.specs.Prelude.{◌≡◌, ◌+◌, ◌-◌, ◌^◌, ◌<◌, length, take};
-ghost use Rattle.question.specs.Question.{setup_of};
+ghost use Rattle.setups.specs.Code.SetupOf.{setup_of};
 ghost use Rattle.walk.specs.Walking.{KeepsHighest, GivesUpHighest, Reached, Witnessed, Enters, Walked};
 
 use numbers::Setting;

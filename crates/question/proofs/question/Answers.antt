@@ -3,7 +3,7 @@ use mathlib.Core.Path.{◌≡◌, ◌∙◌, ap}
 use Prim.Native.Nat.{ℕ, ◌-◌, ◌^◌, min}
 use Rattle.setups.specs.Limits.{settings_most}
 use Rattle.setups.specs.Setups.{count}
-use Rattle.question.specs.Question.{setup_of}
+use Rattle.setups.specs.Code.SetupOf.{setup_of}
 use Rattle.question.proofs.Answers.{no_start, no_model_lem, yes_model}
 use Rattle.question.proofs.question.Goals as goal
 use Rattle.question.proofs.question.Goals.{After-full-all}
