@@ -1,4 +1,5 @@
-// List: all ways out of a setup, by the walk over its settings. specs/ has what each function promises, proofs/ the way from the walk to the answer.
+// List: all ways out of a setup, by the walk over its settings. specs/ has what each function promises, proofs/ the way from the walk to
+// the answer.
 #![tactic(auto)]
 
 mod checks;
@@ -48,6 +49,7 @@ fn give_out(taken: &TakenSetup, list: &mut [Set], found: &mut [Set]) -> Result<L
 
 // All ways out, rising. The walk is lent the first room + 1 places of the scratch, and afterwards the whole scratch is zero; a refusal
 // before the search writes nothing.
+#[tactic(auto, using(crate::proofs::Answering::refused))]
 pub fn list(
     count: u32,
     hard: &[u8],

@@ -1,4 +1,4 @@
--- What the question answers: No where the search fails, and Yes with what its model makes true.
+-- What the question answers: none where the search fails, and else what its model makes true.
 use mathlib.Core.Path.{◌≡◌, refl, sym, ◌∙◌, subst}
 use mathlib.Core.Logic.Iff
 use mathlib.Core.Logic.{◌↔◌}
@@ -31,7 +31,7 @@ use Rattle.forcing.proofs.ValueLaws.{agrees_opening}
 use Rattle.setups.specs.Code.SetupOf.{setup_of}
 use Rattle.question.specs.Question.{Meets, Breaks, Says}
 use Rattle.question.specs.Seeking.{Fulfils, Seeks}
-use Rattle.question.specs.declared.asked.Asked.{Asked}
+use Rattle.question.specs.declared.sought.Sought.{Sought}
 use Rattle.question.proofs.Bridge.{rules_true, holds_true}
 
 module _ (s : TakenSetup) (sets : Bor (List ℕ)) (all : ℕ) (every : all ≡ 2 ^ min (count (setup_of s)) settings_most - 1) where
@@ -39,7 +39,7 @@ module _ (s : TakenSetup) (sets : Bor (List ℕ)) (all : ℕ) (every : all ≡ 2
   g = setup_of s
 
   -- what is asked, apart from the kept settings
-  abbrev q : Asked
+  abbrev q : Sought
   q = record { hard = s.hard; soft = s.soft; found = sets }
 
   all_in : (i : ℕ) → In i all ↔ (i < count g)
