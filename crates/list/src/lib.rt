@@ -9,7 +9,7 @@ ghost use Rattle.setups.specs.Code.SetupOf.{setup_of};
 ghost use Rattle.list.specs.Code.Giving.{GivesWays};
 ghost use Rattle.list.specs.Listing.{Lists};
 
-use checks::first_refusal;
+use checks::taken_setup;
 use sets::{EMPTY, Set};
 use setups::{Refusal, TakenSetup};
 use walk::{Node, WaysOut, enter, walk};
@@ -60,7 +60,7 @@ pub fn list(
     ensures { Lists count hard.now soft.now list.old scratch.old result list.new scratch.new }
 {
     let room = list.len();
-    let taken = first_refusal(count, hard, soft, room, scratch.len())?;
+    let taken = taken_setup(count, hard, soft, room, scratch.len())?;
     let answer = give_out(&taken, list, &mut scratch[..room + 1]);
     scratch.fill(EMPTY);
     answer

@@ -42,7 +42,7 @@ impl Branch<'_> {
         }
     }
 
-    // The same for a branch each of whose sets has one of the settings `wanted`: takes each of them in turn, and leaves it after that.
+    // The same for a branch each of whose sets has one of the settings `wanted`: takes one after the other, and leaves each after that.
     // Where all are left, nothing hits the member that wants them.
     #[cycle(branch_split)]
     fn split(mut self, mut wanted: Set, found: &mut Gathered) -> Result<(), Refusal>
