@@ -38,10 +38,10 @@ pub fn visit(values: Values, clauses: Clauses, used: u32, budget: u32) -> Result
     let Some(end) = settle(values, clauses) else {
         return Ok(Visited::None(count));
     };
-    let Some(variable) = lowest_free(end) else {
-        return Ok(Visited::Model(end, count));
-    };
-    split(end, variable, clauses, count, budget)
+    match lowest_free(end) {
+        None => Ok(Visited::Model(end, count)),
+        Some(variable) => split(end, variable, clauses, count, budget),
+    }
 }
 
 // The two sides of a free variable: a visit with the value 0 and, if that side fails, one with the value 1.
