@@ -4,11 +4,11 @@ use crate::places::Place;
 use setups::{FINISHED, Refusal};
 use std::fmt;
 
-// The number of what a job answers, and the count that it tells (places filled); a refusal tells none.
-pub fn outcome<C: Default>(answer: Result<C, Refusal>) -> (u8, C) {
+// The number of what a job answers, and what it tells (places filled); a refusal tells none, and each count is 0.
+pub fn outcome<T: Default>(answer: Result<T, Refusal>) -> (u8, T) {
     match answer {
-        Ok(count) => (FINISHED, count),
-        Err(refusal) => (refusal.into(), C::default()),
+        Ok(told) => (FINISHED, told),
+        Err(refusal) => (refusal.into(), T::default()),
     }
 }
 

@@ -23,9 +23,15 @@ const INPUT_MOST: u64 = 0x20_0000;
 // What stands between two fields.
 const SPACE: u8 = b' ';
 
+// How many fields a call has at the most, with its letter; a line of more is none.
+const FIELDS_MOST: usize = 6;
+
 // What answers a line: the letter is its first field, and the fields after it are the job's.
 fn answer(alloc: Global, line: &[u8]) -> Result<String, Failure> {
-    let fields: Vec<&[u8]> = line.split(|byte| *byte == SPACE).collect(alloc)?;
+    let fields: Vec<&[u8]> = line
+        .split(|byte| *byte == SPACE)
+        .take(FIELDS_MOST + 1)
+        .collect(alloc)?;
     match fields.as_slice() {
         [b"A", fields @ ..] => ask_call::answer(alloc, fields),
         [b"L", fields @ ..] => list_call::answer(alloc, fields),

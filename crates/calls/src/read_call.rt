@@ -1,8 +1,7 @@
 // A call of Read, `R text hardroom softroom`, and its answer, `R number count hardfilled softfilled hard soft`.
-use crate::answers::Run;
+use crate::answers::{Run, outcome};
 use crate::fields::{Failure, room, run};
 use read::ReadSetup;
-use setups::FINISHED;
 use std::alloc::Global;
 
 pub fn answer(alloc: Global, fields: &[&[u8]]) -> Result<String, Failure> {
@@ -12,16 +11,12 @@ pub fn answer(alloc: Global, fields: &[&[u8]]) -> Result<String, Failure> {
     let text = run::<u8>(alloc, text)?;
     let mut hard = room::<u8>(alloc, hard_room)?;
     let mut soft = room::<u8>(alloc, soft_room)?;
-    let (number, count, hard_filled, soft_filled) = match read::read(&text, &mut hard, &mut soft) {
-        Ok(
-            ReadSetup {
-                count,
-                hard_filled,
-                soft_filled,
-            },
-        ) => (FINISHED, count, hard_filled, soft_filled),
-        Err(refusal) => (refusal.into(), 0, 0, 0),
-    };
+    let (number, setup) = outcome(read::read(&text, &mut hard, &mut soft));
+    let ReadSetup {
+        count,
+        hard_filled,
+        soft_filled,
+    } = setup;
     let hard = Run(&hard);
     let soft = Run(&soft);
     Ok(format!(in alloc;

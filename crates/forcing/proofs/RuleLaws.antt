@@ -5,7 +5,7 @@ use mathlib.Core.List.{List}
 use Prim.Native.Nat.{ℕ, ◌-◌, ◌<◌}
 use native.Mathlib.Nat.{le_refl, le_of_suc-le-suc}
 use native.Mathlib.Omega.{arith}
-use borrow.Author.Tests.{eqb-true, eqb-false, eq-eqb, ltb-true, ltb-false}
+use borrow.Author.Tests.{eqb-true, eqb-false, ltb-true, ltb-false}
 use lib.Dec.{T, eqb, ltb, eqb→eq}
 use lib.ListN.{get_or, set}
 use Rattle.std.specs.Prelude.{Option, Some, None}
@@ -94,10 +94,6 @@ fresh_more values seen b f =
 -- ---- the end of a clause that is due
 
 module _ (now : Progress) (seen : Seen) where
-  -- wholly false
-  pub ends_false : seen ≡ AllFalse → KeepsAnswers (λ m. EndsTrue m seen) now None
-  ends_false e m _ a _ = let end = subst (EndsTrue m) e a in subst T end.1 end.2
-
   -- one free literal
   pub ends_one : (b : ℕ) → seen ≡ OneFree b → StillFree now.values seen
       → KeepsAnswers (λ m. EndsTrue m seen) now (Some (record { moved = true; values = set now.values (slot b) (wish b) }))
@@ -112,11 +108,6 @@ module _ (now : Progress) (seen : Seen) where
 -- ---- a literal that has to be false
 
 module _ (now : Progress) (b : ℕ) where
-  -- it is true
-  pub denied_true : get_or now.values (slot b) 0 ≡ wish b → KeepsAnswers (λ m. is_true m b ≡ false) now None
-  denied_true e m _ a agrees =
-      true≢false (sym (eq-eqb (get_or m (slot b) 0) (wish b) (agrees (slot b) (omega (arith, wish_small b)) ∙ e)) ∙ a)
-
   -- it is false or free
   pub denied : KeepsAnswers (λ m. is_true m b ≡ false) now
       (Some (record { moved = now.moved; values = set now.values (slot b) (1 - wish b) }))

@@ -18,7 +18,7 @@ use Rattle.setups.specs.Clauses.{clauses}
 use Rattle.literals.specs.Slots.{slot}
 use Rattle.forcing.specs.Holding.{is_true, may_be, holds}
 use Rattle.forcing.specs.Selectors.{next_selector, Adds}
-use Rattle.forcing.specs.Standings.{looked, Stands}
+use Rattle.forcing.specs.Standings.{looked}
 use Rattle.forcing.specs.declared.standing.Chance.{Chance}
 use Rattle.forcing.specs.declared.standing.Chance.TheVariants.{AllFalse}
 use Rattle.forcing.proofs.StandingLaws.{is_sure, is_possible, looked_sure, looked_possible}
@@ -104,6 +104,3 @@ module _ {values soft : List ℕ} {sure possible : ℕ} {chance : Chance} {n i :
     trues = tallying_reads at.trues l z (looked_sure chance (get_or soft i 0) (get_or values (slot (get_or soft i 0)) 0));
     opens = tallying_reads at.opens l z (looked_possible chance (get_or soft i 0) (get_or values (slot (get_or soft i 0)) 0));
   })
-
-  pub standing_done : length soft ≤ i → Stands values soft (record { sure = sure; possible = possible })
-  standing_done l = record { sure = tallying_done at.trues l; possible = tallying_done at.opens l }

@@ -82,6 +82,7 @@ impl Progress {
 }
 
 // The kept settings, then the hard clauses.
+#[tactic(auto, using(crate::proofs::RuleLaws::answers_fewer, crate::proofs::RuleLaws::answers_then))]
 pub fn force_both(values: Values, kept: Set, hard: &[u8], soft: &[u8]) -> Option<Progress>
     ensures { KeepsAnswers (λ m. OwingBoth kept (is_true m) hard.now soft.now) (unmoved values) result }
 {

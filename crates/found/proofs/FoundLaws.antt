@@ -35,9 +35,6 @@ pub record Narrowing (kept possible : ℕ) (found : List ℕ) (wider i : ℕ) : 
   pub only : (test : ℕ → Bool) → ((j : ℕ) → T (test j) → In j possible) → Fit kept found test → Each wider test
 
 module _ (kept possible : ℕ) (found : List ℕ) where
-  pub narrowing_starts : Narrowing kept possible found kept 0
-  narrowing_starts = record { upto = zero-le; grows = λ j h. h; only = λ test could fit. fit.keeps }
-
   -- a kept setting is not possible
   pub narrows_kept : ¬ Within kept possible → Narrows kept possible found None
   narrows_kept n test could fit = n (λ j h. could j (fit.keeps j h))

@@ -1,14 +1,15 @@
-// List: all ways out of a setup, by the walk over its settings. specs/ has what each function promises, proofs/ the way from the walk to the answer.
+// List: all ways out of a setup, by the walk over its settings. specs/ has what each function promises, proofs/ the way from the walk to
+// the answer.
 #![tactic(auto)]
 
 mod checks;
 
 ghost use Rattle.std.specs.Prelude.{◌≡◌, ◌+◌, length};
-ghost use Rattle.question.specs.Question.{setup_of};
+ghost use Rattle.setups.specs.Code.SetupOf.{setup_of};
 ghost use Rattle.list.specs.Code.Giving.{GivesWays};
 ghost use Rattle.list.specs.Listing.{Lists};
 
-use checks::first_refusal;
+use checks::taken_setup;
 use sets::{EMPTY, Set};
 use setups::{Refusal, TakenSetup};
 use walk::{Node, WaysOut, enter, walk};
@@ -48,6 +49,7 @@ fn give_out(taken: &TakenSetup, list: &mut [Set], found: &mut [Set]) -> Result<L
 
 // All ways out, rising. The walk is lent the first room + 1 places of the scratch, and afterwards the whole scratch is zero; a refusal
 // before the search writes nothing.
+#[tactic(auto, using(crate::proofs::Answering::refused))]
 pub fn list(
     count: u32,
     hard: &[u8],
@@ -58,7 +60,7 @@ pub fn list(
     ensures { Lists count hard.now soft.now list.old scratch.old result list.new scratch.new }
 {
     let room = list.len();
-    let taken = first_refusal(count, hard, soft, room, scratch.len())?;
+    let taken = taken_setup(count, hard, soft, room, scratch.len())?;
     let answer = give_out(&taken, list, &mut scratch[..room + 1]);
     scratch.fill(EMPTY);
     answer

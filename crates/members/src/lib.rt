@@ -20,6 +20,7 @@ pub enum Unhit {
 }
 
 // The taken setting that alone hits the member; the empty set where none or several do.
+#[tactic(auto, using(crate::proofs::Members::alone_one, crate::proofs::Members::alone_several))]
 fn alone(member: Set, taken: Set) -> Set
     ensures { (i : ℕ) → In i result ↔ Alone member taken i }
 {

@@ -1,6 +1,6 @@
 -- The laws that every crate leans on.
 
--- one place more, read, filled or copied
+-- one place more, read or filled
 pub mod Places
 -- tests and decisions
 pub mod Deciding

@@ -3,9 +3,8 @@ use mathlib.Core.Path.{◌≡◌, refl, sym, ◌∙◌}
 use mathlib.Core.List.{List, [], ◌∷◌, ◌++◌}
 use Prim.Native.Nat.{ℕ, zero, suc, ◌+◌, ◌<◌}
 use native.Mathlib.Numerals.{add-one}
-use native.Mathlib.Omega.{arith}
-use lib.ListN.{length, get_or, set, take, drop, replicate}
-use lib.Seq.{drop-cons, set_at, append_snoc, take-suc, length-take-le}
+use lib.ListN.{length, get_or, set, drop, replicate}
+use lib.Seq.{drop-cons, set_at, append_snoc}
 
 -- the rest from place i on is what stands there and the rest from the next place on
 pub front : (list : List ℕ) (i : ℕ) → i < length list → drop i list ≡ get_or list i 0 ∷ drop (i + 1) list
@@ -23,10 +22,3 @@ pub fill_next : (filled places : List ℕ) (i x : ℕ) → length filled ≡ i �
 fill_next filled places i x e l =
     rw (front places i l)
     (set_at filled (get_or places i 0) (drop (i + 1) places) x i e ∙ sym (append_snoc filled x (drop (i + 1) places)))
-
--- a list copied place by place
-pub copy_next : (from into : List ℕ) (i : ℕ) → i < length from → i < length into
-    → set (take i from ++ drop i into) i (get_or from i 0) ≡ take (i + 1) from ++ drop (i + 1) into
-copy_next from into i f t =
-    let more : take (i + 1) from ≡ take i from ++ (get_or from i 0 ∷ []) = rw (add-one i) (take-suc from i 0 f) in
-    rw more (fill_next (take i from) into i (get_or from i 0) (length-take-le i from (omega arith)) t)

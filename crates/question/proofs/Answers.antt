@@ -1,4 +1,4 @@
--- What the question answers: No where the search fails, and Yes with what its model makes true.
+-- What the question answers: none where the search fails, and else what its model makes true.
 use mathlib.Core.Path.{◌≡◌, refl, sym, ◌∙◌, subst}
 use mathlib.Core.Logic.Iff
 use mathlib.Core.Logic.{◌↔◌}
@@ -28,9 +28,10 @@ use Rattle.forcing.specs.Standings.{Stands}
 use Rattle.forcing.specs.declared.forcing.Progress.{Progress}
 use Rattle.forcing.specs.declared.standing.Standing.{Standing}
 use Rattle.forcing.proofs.ValueLaws.{agrees_opening}
-use Rattle.question.specs.Question.{setup_of, Meets, Breaks, Says}
+use Rattle.setups.specs.Code.SetupOf.{setup_of}
+use Rattle.question.specs.Question.{Meets, Breaks, Says}
 use Rattle.question.specs.Seeking.{Fulfils, Seeks}
-use Rattle.question.specs.declared.asked.Asked.{Asked}
+use Rattle.question.specs.declared.sought.Sought.{Sought}
 use Rattle.question.proofs.Bridge.{rules_true, holds_true}
 
 module _ (s : TakenSetup) (sets : Bor (List ℕ)) (all : ℕ) (every : all ≡ 2 ^ min (count (setup_of s)) settings_most - 1) where
@@ -38,7 +39,7 @@ module _ (s : TakenSetup) (sets : Bor (List ℕ)) (all : ℕ) (every : all ≡ 2
   g = setup_of s
 
   -- what is asked, apart from the kept settings
-  abbrev q : Asked
+  abbrev q : Sought
   q = record { hard = s.hard; soft = s.soft; found = sets }
 
   all_in : (i : ℕ) → In i all ↔ (i < count g)
@@ -55,9 +56,6 @@ module _ (s : TakenSetup) (sets : Bor (List ℕ)) (all : ℕ) (every : all ≡ 2
   below S inside =
       let w : Within S (2 ^ count g - 1) = λ i h. (full_in (count g) i).1 (inside i h) in
       omega (arith, within_le S (2 ^ count g - 1) w, pow_pos (count g))
-
-  pub given_below : (S : ℕ) → bit_and S all < 2 ^ count g
-  given_below S = below (bit_and S all) (λ i h. ((there S i).0 h).1)
 
   module _ (kept given : ℕ) where
     -- ---- no model

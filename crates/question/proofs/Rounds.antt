@@ -1,14 +1,14 @@
 -- Rounds of the rules: one round, and one after another.
 use mathlib.Core.Path.{◌≡◌, refl, sym, subst}
 use mathlib.Core.Logic.{◌≢◌, ◌⊎◌, ⊎_elim}
-use Rattle.std.specs.Prelude.{Option, Some, None}
+use Rattle.std.specs.Prelude.{Some, None}
 use mathlib.Core.Bool.{Bool, true, false, cond}
 use mathlib.Core.List.{List}
 use Prim.Native.Nat.{ℕ, ◌+◌, ◌-◌, ◌*◌, ◌^◌, ◌<◌, min}
 use native.Mathlib.Omega.{arith}
 use lib.Dec.{T}
 use Rattle.sets.specs.Sets.{In, Within}
-use Rattle.sets.proofs.Digits.{in_below, within_le, within_trans}
+use Rattle.sets.proofs.Digits.{in_below, within_le}
 use Rattle.sets.proofs.Tests.{has_in}
 use Rattle.setups.specs.Limits.{settings_most}
 use Rattle.setups.specs.Clauses.{clauses}
@@ -23,15 +23,15 @@ use Rattle.forcing.specs.Standings.{Stands}
 use Rattle.forcing.specs.declared.forcing.Progress.{Progress}
 use Rattle.forcing.specs.declared.standing.Standing.{Standing}
 use Rattle.forcing.proofs.Verdicts.{verdict_clause, verdict_holds}
-use Rattle.question.specs.Seeking.{Fulfils, NoneAgrees, AdvancesTo, Advances}
-use Rattle.question.specs.declared.asked.Asked.{Asked}
+use Rattle.question.specs.Seeking.{Fulfils, AdvancesTo, Advances}
+use Rattle.question.specs.declared.sought.Sought.{Sought}
 use Rattle.question.specs.declared.seeking.Round.{Round}
 use Rattle.question.proofs.TestLaws.{holds_more, each_passes, true_may}
 
--- ---- what is fulfils, as the passes take it
+-- ---- what is asked, as the passes take it
 
 -- each kept setting's clause is owed, and each hard clause
-fulfils_both : {q : Asked} {kept : ℕ} {test : ℕ → Bool} → kept < 2 ^ settings_most → Fulfils q kept test
+fulfils_both : {q : Sought} {kept : ℕ} {test : ℕ → Bool} → kept < 2 ^ settings_most → Fulfils q kept test
     → OwingBoth kept test q.hard.now q.soft.now
 fulfils_both {q} {kept} {test} small fulfils = record { keeps = keeps; rules = λ i l h. each_passes test (clauses q.hard.now) fulfils.rules i l }
   where
@@ -49,7 +49,7 @@ possible : {values soft : List ℕ} {standing : Standing} → Stands values soft
 possible {values} {soft} {standing} stands m agrees i t =
     has_in standing.possible i (subst T (sym (stands.possible i)) (holds_more (is_true m) (may_be values) (true_may values m agrees) soft i t))
 
-module _ (q : Asked) {kept : ℕ} (values : List ℕ) (small : kept < 2 ^ settings_most) where
+module _ (q : Sought) {kept : ℕ} (values : List ℕ) (small : kept < 2 ^ settings_most) where
   -- a clause can't be met
   pub advances_stuck : KeepsAnswers (λ m. OwingBoth kept (is_true m) q.hard.now q.soft.now) (unmoved values) None → Advances q kept values None
   advances_stuck none m d fulfils = none m d (fulfils_both small fulfils)
@@ -80,37 +80,21 @@ module _ (q : Asked) {kept : ℕ} (values : List ℕ) (small : kept < 2 ^ settin
 
 -- ---- one round after another
 
--- what is fulfils, with more kept that holds
-pub fulfils_wider : {q : Asked} {kept wider : ℕ} {test : ℕ → Bool} → Fulfils q kept test
+-- what is asked, with more kept that holds
+pub fulfils_wider : {q : Sought} {kept wider : ℕ} {test : ℕ → Bool} → Fulfils q kept test
     → Each wider (holds test q.soft.now) → Fulfils q wider test
 fulfils_wider fulfils each = record { rules = fulfils.rules; fit = record { keeps = each; each = fulfils.fit.each } }
 
 -- and with less kept
-pub fulfils_narrower : {q : Asked} {kept wider : ℕ} {test : ℕ → Bool} → Within kept wider → Fulfils q wider test
+pub fulfils_narrower : {q : Sought} {kept wider : ℕ} {test : ℕ → Bool} → Within kept wider → Fulfils q wider test
     → Fulfils q kept test
 fulfils_narrower w fulfils = fulfils_wider fulfils (λ i h. fulfils.fit.keeps i (w i h))
-
--- what agrees with the values and is fulfils stays so, with the wider kept
-none_on : {q : Asked} {kept : ℕ} {values : List ℕ} {r : Round} → AdvancesTo q kept values r
-    → NoneAgrees (λ m. Fulfils q r.kept (is_true m)) r.values → NoneAgrees (λ m. Fulfils q kept (is_true m)) values
-none_on first none m d fulfils agrees = let was = first.stays m d fulfils agrees in none m d (fulfils_wider fulfils was.1) was.0
-
-pub advances_on : {q : Asked} {kept : ℕ} {values : List ℕ} {r : Round} → AdvancesTo q kept values r → (s : Option Round)
-    → Advances q r.kept r.values s → Advances q kept values s
-advances_on {kept = kept} {r = r} first (Some s) second = record {
-  less = omega (arith, first.less, second.less);
-  grows = within_trans kept r.kept s.kept first.grows second.grows;
-  moves = λ t. omega (arith, first.less, second.moves t, within_le kept r.kept first.grows);
-  stands = second.stands;
-  stays = λ m d fulfils agrees. let was = first.stays m d fulfils agrees in second.stays m d (fulfils_wider fulfils was.1) was.0;
-}
-advances_on first None none = none_on first none
 
 -- how much is left to do: values to set and settings to keep, and a last round
 abbrev pub left : Round → ℕ
 left r = 2 * (free_count r.values + (2 ^ settings_most - r.kept)) + cond r.moved 1 0
 
-pub left_less : (q : Asked) (r s : Round) → r.moved ≡ true → s.kept < 2 ^ settings_most
+pub left_less : (q : Sought) (r s : Round) → r.moved ≡ true → s.kept < 2 ^ settings_most
     → AdvancesTo q r.kept r.values s → left s < left r
 left_less q r s t small next = rw t (go s.moved refl)
   where

@@ -1,4 +1,4 @@
--- The search: what it tells where a round fails, where what is fulfils is met, where no variable is free, and after a split.
+-- The search: what it tells where a round fails, where what is asked is met, where no variable is free, and after a split.
 use mathlib.Core.Path.{◌≡◌, sym, subst}
 use mathlib.Core.Logic.{◌⊎◌, inl, inr, ⊎_elim, ◌↔◌, by_cases}
 use mathlib.Core.Bool.{Bool}
@@ -19,7 +19,7 @@ use Rattle.forcing.specs.Values.{AgreesWith}
 use Rattle.forcing.specs.Standings.{Stands}
 use Rattle.forcing.proofs.ValueLaws.{free_set_lt, agrees_set}
 use Rattle.question.specs.Seeking.{Fulfils, AdvancesTo, Done, Seeks}
-use Rattle.question.specs.declared.asked.Asked.{Asked}
+use Rattle.question.specs.declared.sought.Sought.{Sought}
 use Rattle.question.specs.declared.seeking.Round.{Round}
 use Rattle.question.proofs.TestLaws.{all_more, holds_more, true_stays, true_was}
 use Rattle.question.proofs.Rounds.{fulfils_wider, fulfils_narrower}
@@ -31,14 +31,14 @@ fit_more weaker fit = record {
   each = λ W h. let one = fit.each W h in (one.0, one.1, weaker one.0 one.2);
 }
 
--- what is fulfils, over a test of literals that passes more
-fulfils_more : {q : Asked} {kept : ℕ} {test more : ℕ → Bool} → ((b : ℕ) → T (test b) → T (more b))
+-- what is asked, over a test of literals that passes more
+fulfils_more : {q : Sought} {kept : ℕ} {test more : ℕ → Bool} → ((b : ℕ) → T (test b) → T (more b))
     → Fulfils q kept test → Fulfils q kept more
 fulfils_more {q} {test = test} {more = more} weaker fulfils =
     record { rules = all_more test more weaker (clauses q.hard.now) fulfils.rules; fit = fit_more (holds_more test more weaker q.soft.now) fulfils.fit }
 
 -- it is met so far where what is true so far fulfils it
-done_so : {q : Asked} {s : Round} → Stands s.values q.soft.now s.standing → Done q s ↔ Fulfils q s.kept (is_true s.values)
+done_so : {q : Sought} {s : Round} → Stands s.values q.soft.now s.standing → Done q s ↔ Fulfils q s.kept (is_true s.values)
 done_so stands = (
   (λ done. record { rules = done.rules; fit = fit_more (λ i t. subst T (stands.sure i) t) done.fit }),
   λ fulfils. record { rules = fulfils.rules; fit = fit_more (λ i t. subst T (sym (stands.sure i)) t) fulfils.fit },
@@ -49,15 +49,15 @@ value_cases : (m : List ℕ) (b : ℕ) → AllSet m → (get_or m (slot b) 0 ≡
 value_cases m b d =
     by_cases (ℕ_discrete (get_or m (slot b) 0) (wish b)) inl (λ n. inr (omega (arith, d (slot b), wish_small b)))
 
-module _ {q : Asked} {kept : ℕ} {values : List ℕ} {s : Round} (advances : AdvancesTo q kept values s) where
+module _ {q : Sought} {kept : ℕ} {values : List ℕ} {s : Round} (advances : AdvancesTo q kept values s) where
   so_far : Done q s ↔ Fulfils q s.kept (is_true s.values)
   so_far = done_so advances.stands
 
-  -- what is fulfils is met
+  -- what is asked is met
   pub seeks_done : Done q s → Seeks (λ m. Fulfils q kept (is_true m)) values (Some s.values)
   seeks_done done m agrees = fulfils_narrower advances.grows (fulfils_more (true_stays s.values m agrees) (so_far.0 done))
 
-  -- no variable is free, and what is fulfils is not met
+  -- no variable is free, and what is asked is not met
   pub seeks_full : AllSet s.values → ¬ Done q s → Seeks (λ m. Fulfils q kept (is_true m)) values None
   seeks_full full not_done m d fulfils agrees =
       let r = advances.stays m d fulfils agrees in

@@ -4,11 +4,6 @@ use Rattle.std.proofs.Common.{zero-le, arith, lit<}
 use Rattle.sets.specs.Sets.{In}
 use Rattle.sets.specs.Lists.{Among}
 use Rattle.setups.specs.Setups.{Setup, setup, count, SettingTrue, Models}
-use Rattle.setups.specs.declared.taken.TakenSetup.{TakenSetup}
-
--- the setup that the code holds
-abbrev pub setup_of : TakenSetup → Setup
-setup_of taken = setup taken.variables taken.hard.now taken.soft.now
 
 -- m meets the hard clauses, each kept setting, and of each found set one setting
 pub record Meets (g : Setup) (kept : ℕ) (found m : List ℕ) : Type 0 where

@@ -10,11 +10,11 @@ use Rattle.literals.specs.Slots.{slot, AllSet}
 use Rattle.forcing.specs.Holding.{is_true, holds}
 use Rattle.forcing.specs.Values.{AgreesWith}
 use Rattle.forcing.specs.Standings.{Stands}
-use Rattle.question.specs.declared.asked.Asked.{Asked}
+use Rattle.question.specs.declared.sought.Sought.{Sought}
 use Rattle.question.specs.declared.seeking.Round.{Round}
 
 -- the hard clauses pass, each kept setting holds, and of each found set one setting
-pub record Fulfils (asked : Asked) (kept : ℕ) (test : ℕ → Bool) : Type 0 where
+pub record Fulfils (asked : Sought) (kept : ℕ) (test : ℕ → Bool) : Type 0 where
   pub rules : T (all_pass test (clauses asked.hard.now))
   pub fit : Fit kept asked.found.now (holds test asked.soft.now)
 
@@ -24,7 +24,7 @@ NoneAgrees Answer values = (m : List ℕ) → AllSet m → Answer m → ¬ Agree
 
 -- From the values and the kept settings to those of r: what meets what is asked and agrees with the values agrees with those of r and
 -- makes its kept settings true. Where r has moved, fewer values are free or more settings are kept.
-pub record AdvancesTo (asked : Asked) (kept : ℕ) (values : List ℕ) (r : Round) : Type 0 where
+pub record AdvancesTo (asked : Sought) (kept : ℕ) (values : List ℕ) (r : Round) : Type 0 where
   pub less : free_count r.values ≤ free_count values
   pub grows : Within kept r.kept
   pub moves : r.moved ≡ true → free_count r.values + kept < free_count values + r.kept
@@ -33,12 +33,12 @@ pub record AdvancesTo (asked : Asked) (kept : ℕ) (values : List ℕ) (r : Roun
       → AgreesWith r.values m × Each r.kept (holds (is_true m) asked.soft.now)
 
 -- None only where nothing that agrees with the values meets what is asked
-abbrev pub Advances : Asked → ℕ → List ℕ → Option Round → Type 0
+abbrev pub Advances : Sought → ℕ → List ℕ → Option Round → Type 0
 Advances asked kept values (Some r) = AdvancesTo asked kept values r
 Advances asked kept values None = NoneAgrees (λ m. Fulfils asked kept (is_true m)) values
 
 -- what is asked is met so far: the settings that are true already suffice
-pub record Done (asked : Asked) (r : Round) : Type 0 where
+pub record Done (asked : Sought) (r : Round) : Type 0 where
   pub rules : T (all_pass (is_true r.values) (clauses asked.hard.now))
   pub fit : Fit r.kept asked.found.now (has r.standing.sure)
 

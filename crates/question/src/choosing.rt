@@ -1,8 +1,8 @@
 // The choice of the next variable and value. It may be tuned without a proof: its contract says only that the variable is free.
 ghost use Rattle.question.specs.Seeking.{Chosen};
 
-use crate::asked::Asked;
 use crate::seeking::Round;
+use crate::sought::Sought;
 use forcing::{FIRST_SELECTOR, Standing, has_selector, next_selector};
 use literals::{FREE, Values, lowest_free, slot, wish};
 use numbers::{NEGATED, Selector};
@@ -21,10 +21,12 @@ fn pick<F: Fn(Selector) -> bool>(values: Values, owed: F, clauses: &[u8]) -> Opt
     let mut free = None;
     for &byte in clauses {
         if byte == 0 {
-            if touched && free.is_some() {
-                return free;
+            if free.is_some() {
+                if touched {
+                    return free;
+                }
+                untouched = untouched.or(free);
             }
-            untouched = untouched.or(free);
             selector = next_selector(selector);
             due = owed(selector);
             touched = false;
@@ -61,7 +63,7 @@ fn lowest_at_zero(values: Values) -> Option<u8>
     Some(NEGATED + variable.0)
 }
 
-impl Asked<'_> {
+impl Sought<'_> {
     // The settings to make true first: the kept ones that are open, or else those of the found set with fewest; none where all is met.
     fn aim(&self, round: Round) -> Option<Set> {
         let open = round.kept & !round.standing.sure;

@@ -1,17 +1,18 @@
 // The question under List: is there a model that meets what is asked, and which settings does it make true?
 #![tactic(auto)]
 
-mod asked;
 mod choosing;
 mod seeking;
+mod sought;
 
-ghost use Rattle.question.specs.Question.{setup_of, Says};
+ghost use Rattle.setups.specs.Code.SetupOf.{setup_of};
+ghost use Rattle.question.specs.Question.{Says};
 
-use asked::Asked;
 use forcing::{complete, give_up, stand};
 use literals::opening;
 use sets::{Set, full};
 use setups::TakenSetup;
+use sought::Sought;
 
 // The settings that a model makes true which meets what is asked; None where no such model breaks every given-up setting. Kept and
 // given-up settings that there are not count for nothing. The given-up ones are broken once, before the search.
@@ -20,7 +21,7 @@ pub fn question(taken: &TakenSetup, kept: Set, given: Set, found: &[Set]) -> Opt
 {
     let all = full(taken.settings);
     let start = give_up(opening(taken.variables), given & all, taken.soft)?;
-    let asked = Asked {
+    let asked = Sought {
         hard: taken.hard,
         soft: taken.soft,
         found,

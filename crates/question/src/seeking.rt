@@ -3,7 +3,7 @@ ghost use Rattle.std.specs.Prelude.{◌≡◌, true, ◌↔◌};
 ghost use Rattle.forcing.specs.Holding.{is_true};
 ghost use Rattle.question.specs.Seeking.{Fulfils, Advances, Done, Seeks};
 
-use crate::asked::Asked;
+use crate::sought::Sought;
 use forcing::{Standing, force_both, met, stand, with_false, with_true};
 use found::{fits, narrow};
 use literals::Values;
@@ -18,7 +18,7 @@ pub struct Round {
     pub values: Values,
 }
 
-impl Asked<'_> {
+impl Sought<'_> {
     // Each rule once: the kept settings, the hard clauses, the found sets. None where one of them can't be met.
     fn one_round(&self, values: Values, kept: Set) -> Option<Round>
         ensures { Advances self.now kept values result }
@@ -35,6 +35,7 @@ impl Asked<'_> {
     }
 
     // Rounds until one makes no difference.
+    #[tactic(auto, using(crate::proofs::Rounds::left_less))]
     pub fn all_rounds(&self, values: Values, kept: Set) -> Option<Round>
         ensures { Advances self.now kept values result }
     {

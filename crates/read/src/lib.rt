@@ -17,7 +17,7 @@ use setups::Refusal;
 pub const TEXT_MOST: usize = 32_768;
 
 // What Read tells of a text: the variable count, and how many places of each buffer its clauses fill.
-#[derive(Clone, Copy)]
+#[derive(Clone, Copy, Default)]
 pub struct ReadSetup {
     pub count: u32,
     pub hard_filled: usize,

@@ -115,9 +115,6 @@ pub record UnitsFrom (values assumed : List ℕ) (i : ℕ) : Type 0 where
   pub inside : i ≤ length assumed
   pub gives : scanned values (units assumed) ≡ further i (scanned values (units (drop i assumed)))
 
-pub units_start : (values assumed : List ℕ) → UnitsFrom values assumed 0
-units_start values assumed = record { inside = omega arith; gives = rw zero-add }
-
 module _ {values assumed : List ℕ} {i : ℕ} (at : UnitsFrom values assumed i) where
   unit_here : i < length assumed
       → scanned values (units assumed) ≡ further i (or_rest (see values AllFalse (get_or assumed i 0)) (scanned values (units (drop (i + 1) assumed))))

@@ -28,21 +28,21 @@ pub const SETS_MOST: usize = 1024;
 
 pub const ASSUMED_MOST: usize = 64;
 
-// What comes back when it can't: document 01's names, in the order of their numbers.
+// What comes back when it can't: document 01's names and numbers.
 #[derive(Clone, Copy)]
 pub enum Refusal {
-    Vars,
-    Size,
-    Work,
-    Literal,
-    Tail,
-    Long,
-    Softs,
-    TooMany,
-    List,
-    Spent,
-    Frame,
-    Room,
+    Vars = 1,
+    Size = 2,
+    Work = 3,
+    Literal = 4,
+    Tail = 5,
+    Long = 6,
+    Softs = 7,
+    TooMany = 8,
+    List = 9,
+    Spent = 10,
+    Frame = 11,
+    Room = 12,
 }
 
 // The numbers of the answers that are no refusals: Model, Listed, Marked, Read and Written; Unmet; None.
@@ -57,20 +57,7 @@ impl From<Refusal> for u8 {
     ghost from_gives = { λ refusal number. number ≡ number_of refusal };
 
     fn from(refusal: Refusal) -> u8 {
-        match refusal {
-            Refusal::Vars => 1,
-            Refusal::Size => 2,
-            Refusal::Work => 3,
-            Refusal::Literal => 4,
-            Refusal::Tail => 5,
-            Refusal::Long => 6,
-            Refusal::Softs => 7,
-            Refusal::TooMany => 8,
-            Refusal::List => 9,
-            Refusal::Spent => 10,
-            Refusal::Frame => 11,
-            Refusal::Room => 12,
-        }
+        refusal as u8
     }
 }
 

@@ -19,7 +19,7 @@ use Rattle.setups.specs.GivenOut.{without_list}
 use Rattle.setups.specs.Written.{written}
 use Rattle.setups.specs.Turn.{turn_refusal, TurnGives}
 use Rattle.setups.specs.declared.Refusal.TheVariants.{TooMany}
-use Rattle.turn.specs.declared.found.Found.{Found}
+use Rattle.turn.specs.declared.gathered.Gathered.{Gathered}
 use Rattle.turn.specs.Code.Branches.{Holds}
 use Rattle.turn.specs.Code.Growing.{sets_of, room_of, Added, Overfull}
 use Rattle.turn.specs.Code.Giving.{GivesTurn}
@@ -50,9 +50,9 @@ whole_branch n members S = (to, from)
 cross : (n : ℕ) (given before : List ℕ) → before ≡ [] → (S : ℕ) → Among S before ⊎ Holds given 0 (2 ^ n - 1) S → SmallestCross n (λ M. Among M given) S
 cross n given before none S h = (whole_branch n given S).0 (⊎_elim (λ k. absurd (rw none at k)) (λ b. b) h)
 
-module _ (n : ℕ) {given list : List ℕ} {before : Found} (none : sets_of before ≡ []) (room : room_of before ≡ length list) where
+module _ (n : ℕ) {given list : List ℕ} {before : Gathered} (none : sets_of before ≡ []) (room : room_of before ≡ length list) where
   -- all of it is found, and copied to the list
-  pub gives_list : {after : Found} {list_after : List ℕ} → Added (Holds given 0 (2 ^ n - 1)) before after
+  pub gives_list : {after : Gathered} {list_after : List ℕ} → Added (Holds given 0 (2 ^ n - 1)) before after
       → list_after ≡ written (sets_of after) list → GivesTurn n given list (Ok (length (sets_of after))) list_after
   gives_list {after} added e = record {
     turned = sets_of after;

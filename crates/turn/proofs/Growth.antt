@@ -7,11 +7,11 @@ use lib.Seq.{length-take-le}
 use Rattle.std.specs.Prelude.{Result, Ok, Err}
 use Rattle.setups.specs.declared.Refusal.{Refusal}
 use Rattle.sets.specs.Lists.{Among}
-use Rattle.turn.specs.declared.found.Found.{Found}
+use Rattle.turn.specs.declared.gathered.Gathered.{Gathered}
 use Rattle.turn.specs.Code.Growing.{placed, sets_of, Inserts, Ready, Added, Overfull, Grown}
 use Rattle.turn.proofs.Placing.{placed_length, placed_listed, placed_rising}
 
-module _ {Family : ℕ → Type 0} {before : Found} (ready : Ready Family before) where
+module _ {Family : ℕ → Type 0} {before : Gathered} (ready : Ready Family before) where
   -- an empty family adds nothing
   pub added_none : ((S : ℕ) → ¬ Family S) → Added Family before before
   added_none none = record {
@@ -22,7 +22,7 @@ module _ {Family : ℕ → Type 0} {before : Found} (ready : Ready Family before
   }
 
   -- a family of one set is put in its place, if one is left
-  pub grown_one : {T : ℕ} (after : Found) (result : Result (Unit {0}) Refusal) → ((S : ℕ) → Family S ↔ (S ≡ T)) → Inserts T before after result
+  pub grown_one : {T : ℕ} (after : Gathered) (result : Result (Unit {0}) Refusal) → ((S : ℕ) → Family S ↔ (S ≡ T)) → Inserts T before after result
       → Grown Family before after result
   grown_one {T} after (Ok u) one put = record {
     room = put.room;
@@ -49,7 +49,7 @@ module _ {Family : ℕ → Type 0} {before : Found} (ready : Ready Family before
     pub over_first : Overfull First before → Overfull Family before
     over_first over = record { sets = over.sets; rising = over.rising; sound = λ S h. ⊎_elim inl (λ f. inr (inside S f)) (over.sound S h); more = over.more }
 
-    module _ {middle : Found} (first : Added First before middle) where
+    module _ {middle : Gathered} (first : Added First before middle) where
       -- what is found then was there, or is of the family
       found_first : (S : ℕ) → Among S (sets_of middle) → Among S (sets_of before) ⊎ Family S
       found_first S h = ⊎_elim inl (λ f. inr (inside S f)) (first.sound S h)
@@ -60,7 +60,7 @@ module _ {Family : ℕ → Type 0} {before : Found} (ready : Ready Family before
         ready_second apart = record { fresh = λ S h s. ⊎_elim (λ k. ready.fresh S k (inside_too S s)) (λ f. apart S f s) (first.sound S h) }
 
         -- with both the family is added, if it has nothing else
-        pub added_both : (after : Found) → Added Second middle after → ((S : ℕ) → Family S → First S ⊎ Second S) → Added Family before after
+        pub added_both : (after : Gathered) → Added Second middle after → ((S : ℕ) → Family S → First S ⊎ Second S) → Added Family before after
         added_both after second all = record {
           room = second.room ∙ first.room;
           kept = λ S h. second.kept S (first.kept S h);

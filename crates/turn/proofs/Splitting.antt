@@ -6,7 +6,7 @@ use Prim.Native.Nat.{ℕ, ◌<◌}
 use native.Mathlib.Omega.{arith}
 use Rattle.sets.specs.Sets.{In, Share, Joins, Leaves}
 use Rattle.sets.proofs.Digits.{in_dec, none_in, within_le}
-use Rattle.turn.specs.declared.found.Found.{Found}
+use Rattle.turn.specs.declared.gathered.Gathered.{Gathered}
 use Rattle.turn.specs.declared.Branch.{Branch}
 use Rattle.turn.specs.Code.Branches.{Holds, HeldBy, TurnsOn}
 use Rattle.turn.specs.Code.Growing.{Ready, Added, Overfull}
@@ -121,14 +121,14 @@ module _ {members : List ℕ} {taken left wanted one more less : ℕ} (parts : P
 -- ---- the loop
 
 -- it goes on with a part of the branch, `now`, and with what is found so far: what that part adds, or has too much of, the branch does
-pub record GoesOn (start : Branch) (before : Found) (now : Branch) (wanted : ℕ) (found : Found) : Type 0 where
+pub record GoesOn (start : Branch) (before : Gathered) (now : Branch) (wanted : ℕ) (found : Gathered) : Type 0 where
   pub turns : wanted ≢ 0 → TurnsOn now.members.now now.taken now.left wanted
   pub empty : wanted ≡ 0 → (S : ℕ) → ¬ HeldBy now S
   pub ready : Ready (HeldBy now) found
-  pub added : (after : Found) → Added (HeldBy now) found after → Added (HeldBy start) before after
+  pub added : (after : Gathered) → Added (HeldBy now) found after → Added (HeldBy start) before after
   pub over : Overfull (HeldBy now) found → Overfull (HeldBy start) before
 
-module _ {start now : Branch} {before found : Found} {wanted one more less : ℕ} (goes : GoesOn start before now wanted found)
+module _ {start now : Branch} {before found : Gathered} {wanted one more less : ℕ} (goes : GoesOn start before now wanted found)
     (parts : Parts now.members.now now.taken now.left wanted one more less) where
   -- those found are ready for the first part; if that is too much, so is the branch
   pub take_ready : Ready (Holds now.members.now more less) found
@@ -138,7 +138,7 @@ module _ {start now : Branch} {before found : Found} {wanted one more less : ℕ
   take_over o = goes.over (over_first goes.ready (take_in parts) o)
 
   -- then it goes on with the second part
-  pub goes_next : (middle : Found) (still : ℕ) → Added (Holds now.members.now more less) found middle → Leaves wanted one still
+  pub goes_next : (middle : Gathered) (still : ℕ) → Added (Holds now.members.now more less) found middle → Leaves wanted one still
       → GoesOn start before (record now { left = less }) still middle
   goes_next middle still first drops = record {
     turns = leave_turns parts still drops;
@@ -149,5 +149,5 @@ module _ {start now : Branch} {before found : Found} {wanted one more less : ℕ
   }
 
 -- at the end nothing is left of it
-pub goes_last : {start now : Branch} {before found : Found} {wanted : ℕ} → GoesOn start before now wanted found → wanted ≡ 0 → Added (HeldBy start) before found
+pub goes_last : {start now : Branch} {before found : Gathered} {wanted : ℕ} → GoesOn start before now wanted found → wanted ≡ 0 → Added (HeldBy start) before found
 goes_last {found = found} goes e = goes.added found (added_none goes.ready (goes.empty e))

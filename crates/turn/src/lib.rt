@@ -1,7 +1,7 @@
 // Turn: from ways out to clashes and back (document 01, "Ways out and clashes" and "What comes back when it can't").
 #![tactic(auto)]
 
-mod found;
+mod gathered;
 
 ghost use Rattle.std.specs.Prelude.{◌≡◌, ◌≤◌, ◌<◌, length};
 ghost use Rattle.setups.specs.Limits.{settings_most};
@@ -10,7 +10,7 @@ ghost use Rattle.turn.specs.Code.Growing.{Ready, Grown};
 ghost use Rattle.turn.specs.Code.Giving.{GivesTurn};
 ghost use Rattle.turn.specs.Turning.{Turns};
 
-use found::Found;
+use gathered::Gathered;
 use lent::fine;
 use members::{Unhit, choose, find_unhit, own};
 use sets::{EMPTY, SETTINGS_MOST, Set, full, with, without};
@@ -28,7 +28,7 @@ impl Branch<'_> {
     // Adds the sets of the branch to those found. It is empty where a taken setting has no member of its own left or a member can't be
     // hit any more.
     #[cycle(branch_split)]
-    fn search(self, found: &mut Found) -> Result<(), Refusal>
+    fn search(self, found: &mut Gathered) -> Result<(), Refusal>
         requires { Ready (HeldBy self) found.old }
         ensures { Grown (HeldBy self.entry) found.old found.new result }
     {
@@ -42,10 +42,10 @@ impl Branch<'_> {
         }
     }
 
-    // The same for a branch each of whose sets has one of the settings `wanted`: takes each of them in turn, and leaves it after that.
+    // The same for a branch each of whose sets has one of the settings `wanted`: takes one after the other, and leaves each after that.
     // Where all are left, nothing hits the member that wants them.
     #[cycle(branch_split)]
-    fn split(mut self, mut wanted: Set, found: &mut Found) -> Result<(), Refusal>
+    fn split(mut self, mut wanted: Set, found: &mut Gathered) -> Result<(), Refusal>
         requires turns_on { TurnsOn self.members.now self.taken self.left wanted }
         requires ready { Ready (HeldBy self) found.old }
         ensures { Grown (HeldBy self.entry) found.old found.new result }
@@ -79,7 +79,7 @@ fn give_out(
         taken: EMPTY,
         left: full(count),
     };
-    let mut found = Found::new(places);
+    let mut found = Gathered::new(places);
     whole.search(&mut found)?;
     let turned = found.sets();
     list[..turned.len()].copy_from_slice(turned);
@@ -99,10 +99,7 @@ pub fn turn(
     if SETTINGS_MOST < count {
         return Err(Refusal::Softs);
     }
-    if SETS_MOST < given.len() {
-        return Err(Refusal::Size);
-    }
-    if SETS_MOST < list.len() {
+    if SETS_MOST < given.len() || SETS_MOST < list.len() {
         return Err(Refusal::Size);
     }
     if scratch.len() <= list.len() {

@@ -1,4 +1,4 @@
--- What the question's two answers say of a node's branch: after No it holds no way out, after Yes it always holds one.
+-- What the question's two answers say of a node's branch: after None it holds no way out, after Some it always holds one.
 use mathlib.Core.Path.{◌≡◌, ◌∙◌, subst}
 use mathlib.Core.Logic.{by_cases}
 use mathlib.Core.Bool.{Bool, not}
@@ -83,7 +83,7 @@ module _ (g : Setup) (m : List ℕ) where
       }
 
 module _ {g : Setup} {left given kept : ℕ} {found : List ℕ} (decided : AboveDecided (count g) left given kept) (before : Below g given found) where
-  -- after No the branch is empty: the model of a way out in it would have met all that was asked
+  -- after None the branch is empty: the model of a way out in it would have met all that was asked
   pub no_way_out : ((m : List ℕ) → Meets g kept found m → Breaks g given m → ⊥) → ¬ WayOutBetween g given (given + 2 ^ left)
   no_way_out refutes s =
       refutes m (record { models = record { assigns = s.1.meets.1.assigns; hard = s.1.meets.1.hard; kept = keeps }; each = each }) breaks
@@ -124,7 +124,7 @@ module _ {g : Setup} {left given kept : ℕ} {found : List ℕ} (decided : Above
               let e : W ≡ S = ways_apart g W S w.0 s.1 (λ j k. stable (in_dec j S) (λ x. q (j, in_below (count g) w.0.below k, (k, x)))) in
               absurd (let b : ⊥ = omega (arith, w.1, s.2) in b)
 
-  -- after Yes it is not: what the model breaks contains a way out, and none that is found, so it isn't below the branch; nor is it
+  -- after Some it is not: what the model breaks contains a way out, and none that is found, so it isn't below the branch; nor is it
   -- above, since it has no kept setting
   pub some_way_out : (m : List ℕ) → Meets g kept found m → WayOutBetween g given (given + 2 ^ left)
   some_way_out m y = (S, way, by_cases (dec_lt S given) new (λ q. let z : given ≤ S = omega arith in z), high)

@@ -4,7 +4,7 @@
 mod ways;
 
 ghost use Rattle.std.specs.Prelude.{◌≡◌, ◌+◌, ◌-◌, ◌^◌, ◌<◌, length, take};
-ghost use Rattle.question.specs.Question.{setup_of};
+ghost use Rattle.setups.specs.Code.SetupOf.{setup_of};
 ghost use Rattle.walk.specs.Walking.{KeepsHighest, GivesUpHighest, Reached, Witnessed, Enters, Walked};
 
 use numbers::Setting;
@@ -76,8 +76,8 @@ fn keeping(taken: &TakenSetup, live: Live, found: &[Set]) -> Option<Live>
     enter(taken, kept, found)
 }
 
-// Puts the ways out of a live node's branch behind those found, until the places are full. A setting is given up only after a dead keep,
-// or where the question with it given up is answered: that a witness breaks it says nothing.
+// Puts the ways out of a live node's branch behind those found, until the places are full. A setting is given up only where
+// keeping it leaves no way out, or where the question with it given up is answered: that a witness breaks it says nothing.
 pub fn walk(taken: &TakenSetup, live: Live, ways: &mut WaysOut)
     requires witnessed { Witnessed (setup_of taken.now) live (take ways.old.filled ways.old.places.now) }
     requires room { ways.old.filled < length ways.old.places.now }
@@ -92,7 +92,7 @@ pub fn walk(taken: &TakenSetup, live: Live, ways: &mut WaysOut)
     }
     let given_up = node.give_up();
     let Some(kept) = keeping(taken, live, ways.found()) else {
-        // The same witness: with the setting kept there is none.
+        // No way out keeps the setting, so that the same model bears witness here.
         walk(
             taken,
             Live {

@@ -6,7 +6,7 @@ use Rattle.setups.specs.Refusals.{number_of, unmet}
 use Rattle.setups.specs.declared.Refusal.{Refusal}
 use Rattle.setups.specs.declared.taken.TakenSetup.{TakenSetup}
 use Rattle.setups.specs.GivenOut.{without_list, zeroed, given_out}
-use Rattle.question.specs.Question.{setup_of}
+use Rattle.setups.specs.Code.SetupOf.{setup_of}
 use Rattle.walk.specs.Walking.{over}
 use Rattle.list.specs.declared.Listing.{Listing}
 use Rattle.list.specs.Listing.{answered}

@@ -3,18 +3,14 @@ use mathlib.Core.Path.{◌≡◌, ◌∙◌, ap}
 use Prim.Native.Nat.{ℕ, ◌-◌, ◌^◌, min}
 use Rattle.setups.specs.Limits.{settings_most}
 use Rattle.setups.specs.Setups.{count}
-use Rattle.question.specs.Question.{setup_of}
-use Rattle.question.proofs.Answers.{given_below, no_start, no_model_lem, yes_model}
+use Rattle.setups.specs.Code.SetupOf.{setup_of}
+use Rattle.question.proofs.Answers.{no_start, no_model_lem, yes_model}
 use Rattle.question.proofs.question.Goals as goal
 use Rattle.question.proofs.question.Goals.{After-full-all}
 
 -- `full` gives the set of all settings
 every : (c : After-full-all) → c.full-all.result ≡ 2 ^ min (count (setup_of c.args.taken.now)) settings_most - 1
 every c = c.full-all.ensures ∙ ap (λ (x : ℕ). 2 ^ min x settings_most - 1) c.args.taken.now.counted
-
-pub give_up-requires : goal.give_up-requires
-give_up-requires c =
-    given_below c.args.taken.now c.args.found _ (every (goal.at.give_up-requires c).After-full-all) c.args.given
 
 pub returns-in_err-start : goal.returns-in_err-start
 returns-in_err-start c =

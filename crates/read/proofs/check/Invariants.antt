@@ -1,4 +1,4 @@
--- `read::check` meets its contract. The loop's invariant: the lines from the reader's place on decide what the text says, and their clauses have been counted up to there.
+-- `read::check`: the lines from the reader's place on decide what the text says, and the clauses before it are counted.
 use Rattle.read.proofs.Passing.{Underway}
 use Rattle.read.proofs.check.Given as goal
 

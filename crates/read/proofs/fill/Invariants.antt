@@ -1,4 +1,4 @@
--- `read::fill` meets its contract. The loop's invariant: the lines from the reader's place on decide what the text says, and the buffers have what has come.
+-- `read::fill`: the lines from the reader's place on decide what the text says, and the buffers have what has come.
 use Rattle.read.proofs.Filling.{Filled}
 use Rattle.read.proofs.fill.Given as goal
 

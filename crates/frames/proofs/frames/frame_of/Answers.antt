@@ -5,8 +5,8 @@ use Rattle.frames.proofs.frames.frame_of.Goals as goal
 
 pub returns-in_err-kind : goal.returns-in_err-kind
 returns-in_err-kind c =
-    c.from_residual-in_err-kind.ensures ∙ no_kind c.args.text.now _ _ _ _ c.in_ok-count.ensures c.byte_at.ensures c.try_from.ensures c.in_err-kind.ensures.value
+    c.from_residual-in_err-kind.ensures ∙ no_kind _ _ _ _ _ c.in_ok-first.ensures.cases c.byte_at.ensures c.try_from.ensures c.in_err-kind.ensures.value
 
 pub returns : goal.returns
 returns c =
-    c.frame_of_kind.ensures ∙ a_kind c.args.text.now _ _ _ _ c.in_ok-count.ensures c.byte_at.ensures c.try_from.ensures _ c.in_ok-kind.ensures.value
+    c.frame_of_kind.ensures ∙ a_kind _ _ _ _ _ c.in_ok-first.ensures.cases c.byte_at.ensures c.try_from.ensures _ c.in_ok-kind.ensures.value

@@ -8,24 +8,24 @@ use setups::Refusal;
 
 // The sets found so far, rising, in the first `filled` of the lent places.
 #[derive(Drop)]
-pub struct Found<'a> {
+pub struct Gathered<'a> {
     places: &'a mut [Set],
     filled: usize,
     ghost few: { filled ≤ length places.now },
     ghost rising: { Rising (take filled places.now) } by { rising_prop (take filled places.now) },
 }
 
-impl<'a> Found<'a> {
+impl<'a> Gathered<'a> {
     ghost use Rattle.std.specs.Prelude.{◌≡◌, []};
     ghost use Rattle.sets.specs.Lists.{Among};
     ghost use Rattle.turn.specs.Code.Growing.{sets_of, room_of, Inserts};
 
     // No set yet.
-    pub fn new(places: &'a mut [Set]) -> Found<'a>
+    pub fn new(places: &'a mut [Set]) -> Gathered<'a>
         ensures none { sets_of result ≡ [] }
         ensures room { room_of result ≡ length places.old }
     {
-        Found { places, filled: 0 }
+        Gathered { places, filled: 0 }
     }
 
     // The sets themselves.

@@ -1,12 +1,12 @@
--- `Asked::one_round` meets its contract: no rule loses an answer.
+-- `Sought::one_round` meets its contract: no rule loses an answer.
 use Rattle.std.proofs.Common.{sym, ◌∙◌, ap, not}
 use borrow.Author.Tests.{eq-eqb}
 use mathlib.Core.Bool.{false≢true}
 use mathlib.Core.Logic.{inl, inr}
 use native.Mathlib.Omega.{arith}
 use Rattle.question.proofs.Rounds.{advances_stuck, advances_dead, advances_round}
-use Rattle.question.proofs.asked.Asked.one_round.Goals as goal
-use Rattle.question.proofs.asked.Asked.one_round.Goals.{then-forced, else-forced}
+use Rattle.question.proofs.sought.Sought.one_round.Goals as goal
+use Rattle.question.proofs.sought.Sought.one_round.Goals.{then-forced, else-forced}
 
 pub returns-in_err-forced : goal.returns-in_err-forced
 returns-in_err-forced c = rw c.from_residual.ensures (advances_stuck c.args.self.now c.args.values (omega (arith, c.ranges.kept)) c.in_err-forced.ensures)

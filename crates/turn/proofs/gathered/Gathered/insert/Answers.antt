@@ -1,4 +1,4 @@
--- `turn::found::Found::insert` meets its contract: the place that is found by halves is the set's, and the larger ones move on from there.
+-- `turn::gathered::Gathered::insert` meets its contract: the place that is found by halves is the set's, and the larger ones move on from there.
 use mathlib.Core.Path.{◌≡◌, refl, sym, ◌∙◌}
 use mathlib.Core.Logic.{◌≢◌}
 use Prim.Native.Nat.{◌+◌, ◌-◌, ◌≤◌, ◌<◌}
@@ -11,8 +11,8 @@ use Rattle.std.proofs.Common.{rules}
 use Rattle.std.proofs.lemmas.List.Sorted.{IsPartitionPoint-from_clause}
 use Rattle.turn.specs.Code.Growing.{placed, sets_of}
 use Rattle.turn.proofs.Placing.{placed_rising, rising_parts, placed_at, turned, turned_length}
-use Rattle.turn.proofs.found.Found.insert.Goals as goal
-use Rattle.turn.proofs.found.Found.insert.Goals.{After-rotate_right}
+use Rattle.turn.proofs.gathered.Gathered.insert.Goals as goal
+use Rattle.turn.proofs.gathered.Gathered.insert.Goals.{After-rotate_right}
 
 -- the place is one of the filled ones, or the next
 within : (c : After-rotate_right) → (c.partition_point-at.result ≤ c.args.self.now.filled) × (c.args.self.now.filled < length c.args.self.now.places.now)

@@ -1,4 +1,4 @@
--- `Asked::seek` meets its contract, in a cycle with itself: each side of a split has fewer free values.
+-- `Sought::seek` meets its contract, in a cycle with itself: each side of a split has fewer free values.
 use Rattle.std.proofs.Common.{sym, ap, ◌∙◌, true≢false, ◌-◌}
 use native.Mathlib.Nat.{le_of_suc-le-suc}
 use native.Mathlib.Omega.{arith}
@@ -6,7 +6,7 @@ use Rattle.setups.specs.Clauses.{wish}
 use Rattle.setups.specs.Searching.{free_count}
 use Rattle.setups.proofs.Settling.{wish_small}
 use Rattle.question.proofs.SeekLaws.{seeks_done, seeks_full, seeks_first, seeks_second, split_less}
-use Rattle.question.proofs.asked.Asked.+seek.Goals as goal
+use Rattle.question.proofs.sought.Sought.+seek.Goals as goal
 
 pub returns-then-done : goal.returns-then-done
 returns-then-done t c = seeks_done c.in_ok-last.ensures (c.done.ensures.0 c.if-done.true)
