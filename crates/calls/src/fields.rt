@@ -1,6 +1,6 @@
 // The fields of a call, each a number, a run of places or how many places are lent, in upper-case hexadecimal digits.
 use crate::places::Place;
-use digits::digit_value;
+use digits::value_of_digit;
 use std::alloc::{AllocError, AllocFailed, Global};
 
 // How many digits a number has.
@@ -32,7 +32,7 @@ impl<T: Drop> From<AllocFailed<T>> for Failure {
 pub fn value(digits: &[u8]) -> Option<u32> {
     digits.iter().try_fold(
         0,
-        |value: u32, digit| Some(value << 4 | u32::from(digit_value(*digit)?)),
+        |value: u32, digit| Some(value << 4 | u32::from(value_of_digit(*digit)?)),
     )
 }
 

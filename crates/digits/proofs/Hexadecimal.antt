@@ -1,13 +1,33 @@
--- Digits: that each value comes back from its digit, and what std makes of a number's bytes.
+-- Digits: which bytes are digits, what a digit's value can be, that each value comes back from its digit, and what std makes of
+-- a number's bytes.
 use mathlib.Core.Path.{◌≡◌, refl, ap}
-use mathlib.Core.Bool.{true}
+use mathlib.Core.Bool.{true, false}
 use mathlib.Core.List.{List, ◌∷◌}
-use Prim.Native.Nat.{ℕ, zero, suc, ◌/◌, ◌%◌, ◌^◌, ◌<◌}
+use Prim.Native.Nat.{ℕ, zero, suc, ◌/◌, ◌%◌, ◌^◌, ◌≤◌, ◌<◌}
 use native.Mathlib.Nat.{div-one}
 use native.Mathlib.Omega.{arith}
 use Rattle.std.proofs.lemmas.Bool.Decides.{nat_tests}
 use Rattle.std.specs.Int.{bytes_high_first}
 use Rattle.digits.specs.Digits.{between, is_digit, digit_value, digit_of, byte_of, bytes_of}
+
+-- ---- which bytes are digits
+
+pub inside : (low high c : ℕ) → low ≤ c → c ≤ high → between low high c ≡ true
+unfolding between
+inside low high c l h = grind (arith, nat_tests)
+
+pub below : (low high c : ℕ) → c < low → between low high c ≡ false
+unfolding between
+below low high c l = grind (arith, nat_tests)
+
+pub above : (low high c : ℕ) → high < c → between low high c ≡ false
+unfolding between
+above low high c h = grind (arith, nat_tests)
+
+-- a number that is a digit's value
+pub a_value_below : (v c : ℕ) → v ≡ digit_value c → v < 16
+unfolding between
+a_value_below v c e = grind (arith, nat_tests)
 
 -- ---- a digit's value comes back
 

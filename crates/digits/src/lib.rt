@@ -6,11 +6,19 @@ ghost use Rattle.std.proofs.lemmas.List.Edits.{sets};
 ghost use Rattle.digits.specs.Digits.{is_digit, digit_value, digit_of, byte_of, digits};
 
 // How many values a digit has.
-const DIGITS: u8 = 0x10;
+pub const DIGITS: u8 = 0x10;
 
-// A digit's value; none where the byte isn't one of 0-9 and A-F.
+// The byte is one of 0-9 and A-F.
 #[tactic(auto, unfolding(crate::specs::Digits::between))]
-pub fn digit_value(byte: u8) -> Option<u8>
+pub fn is_digit(byte: u8) -> bool
+    ensures { result ≡ is_digit byte }
+{
+    matches!(byte, b'0'..=b'9' | b'A'..=b'F')
+}
+
+// A digit's value; none where the byte is no digit.
+#[tactic(auto, using(crate::proofs::Hexadecimal::inside, crate::proofs::Hexadecimal::below, crate::proofs::Hexadecimal::above))]
+pub fn value_of_digit(byte: u8) -> Option<u8>
     ensures { result ≡ cond (is_digit byte) (Some (digit_value byte)) None }
 {
     match byte {
@@ -20,12 +28,12 @@ pub fn digit_value(byte: u8) -> Option<u8>
     }
 }
 
-// The byte is one of 0-9 and A-F.
+// A digit's value; 0 where the byte is no digit.
 #[tactic(auto, unfolding(crate::specs::Digits::between))]
-pub fn is_digit(byte: u8) -> bool
-    ensures { result ≡ is_digit byte }
+pub fn digit_value(byte: u8) -> u8
+    ensures { result ≡ digit_value byte }
 {
-    digit_value(byte).is_some()
+    value_of_digit(byte).unwrap_or(0)
 }
 
 // The digit of a value.
@@ -42,12 +50,12 @@ pub fn digit_of(value: u8) -> u8
 }
 
 // The byte whose two digits stand at `at`; what is no digit counts as 0.
-#[tactic(auto, unfolding(crate::specs::Digits::between))]
+#[tactic(auto, using(crate::proofs::Hexadecimal::a_value_below))]
 pub fn byte_at(text: &[u8], at: usize) -> u8
     requires { at + 1 < length text.now }
     ensures { result ≡ byte_of (get_or text.now at 0) (get_or text.now (at + 1) 0) }
 {
-    digit_value(text[at]).unwrap_or(0) * DIGITS + digit_value(text[at + 1]).unwrap_or(0)
+    digit_value(text[at]) * DIGITS + digit_value(text[at + 1])
 }
 
 // Writes the two digits of a byte at a place of the text.
