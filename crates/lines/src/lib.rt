@@ -5,7 +5,7 @@ ghost use Rattle.std.specs.Prelude.{◌≡◌, ◌+◌, ◌*◌, ◌≤◌, leng
 ghost use Rattle.std.proofs.lemmas.List.Edits.{sets};
 ghost use Rattle.digits.specs.Digits.{bytes_of};
 ghost use Rattle.lines.specs.Lines.{set_line, set_lines, last_line, answer_lines, refusal_lines, set_line_length, last_line_length, Puts};
-ghost use Rattle.lines.specs.Code.Kinds.{byte_of_kind};
+ghost use Rattle.lines.specs.Code.Kinds.{byte_of_line_kind};
 
 use frames::put_frame;
 use sets::Set;
@@ -19,7 +19,7 @@ pub enum LineKind {
 }
 
 impl From<LineKind> for u8 {
-    ghost from_gives = { λ kind byte. byte ≡ byte_of_kind kind };
+    ghost from_gives = { λ kind byte. byte ≡ byte_of_line_kind kind };
 
     fn from(kind: LineKind) -> u8 {
         kind as u8
@@ -45,7 +45,7 @@ pub fn put_line(output: &mut [u8], at: usize, kind: u8, set: Set)
 // Puts a line for each set of a list, and tells the place after them.
 fn put_lines(output: &mut [u8], at: usize, kind: LineKind, list: &[Set]) -> usize
     requires { at + set_line_length * length list.now ≤ length output.old }
-    ensures { (result ≡ at + set_line_length * length list.now) × (output.new ≡ sets output.old at (set_lines (byte_of_kind kind) list.now)) }
+    ensures { (result ≡ at + set_line_length * length list.now) × (output.new ≡ sets output.old at (set_lines (byte_of_line_kind kind) list.now)) }
 {
     let kind = u8::from(kind);
     for (i, set) in list.iter().enumerate() {

@@ -10,7 +10,7 @@ use Rattle.frames.specs.declared.frames.Frame.TheVariants.{Header, Hard, Soft, E
 use Rattle.frames.specs.declared.frames.Found.{Found}
 use Rattle.frames.specs.declared.reader.FrameReader.{FrameReader}
 use Rattle.frames.specs.Frames.{lines, hard_kind, soft_kind, Frame, header, hard, soft, end, no_frame, frame}
-use Rattle.frames.specs.Code.Found.{place_after, told, found, found_at, next_place}
+use Rattle.frames.specs.Code.Found.{place_after, told_frame, found, found_at, next_place}
 use Rattle.frames.proofs.Lines.{first}
 use Rattle.read.specs.declared.ReadSetup.{ReadSetup}
 use Rattle.read.specs.declared.BadLine.{BadLine}
@@ -23,7 +23,7 @@ use Rattle.read.proofs.Following.{Real, Clause, clause, frame_ends, follow_end, 
 -- what is found tells of the frame f
 abbrev Tells : ℕ → Frame → Option Found → Type 0
 Tells at f None = f ≡ no_frame
-Tells at f (Some r) = (told f ≡ Some r.frame) × (r.next ≡ place_after at f)
+Tells at f (Some r) = (told_frame f ≡ Some r.frame) × (r.next ≡ place_after at f)
 
 tells : (at : ℕ) (f : Frame) → Tells at f (found at f)
 tells at (header count) = (refl, refl)
@@ -37,28 +37,28 @@ unfolding found_at
 found_tells t at r e = subst (Tells at (frame (first (drop at t)))) (sym e) (tells at (frame (first (drop at t))))
 
 -- each kind
-told_header : (f : Frame) (count : ℕ) → told f ≡ Some (Header count) → f ≡ header count
+told_header : (f : Frame) (count : ℕ) → told_frame f ≡ Some (Header count) → f ≡ header count
 told_header (header c) count e = cc
 told_header (hard ls) count e = cc
 told_header (soft ls) count e = cc
 told_header end count e = cc
 told_header no_frame count e = cc
 
-told_hard : (f : Frame) (k : ℕ) → told f ≡ Some (Hard k) → (ls : List ℕ) × (f ≡ hard ls) × (k ≡ length ls)
+told_hard : (f : Frame) (k : ℕ) → told_frame f ≡ Some (Hard k) → (ls : List ℕ) × (f ≡ hard ls) × (k ≡ length ls)
 told_hard (header c) k e = cc
 told_hard (hard ls) k e = (ls, refl, cc)
 told_hard (soft ls) k e = cc
 told_hard end k e = cc
 told_hard no_frame k e = cc
 
-told_soft : (f : Frame) (k : ℕ) → told f ≡ Some (Soft k) → (ls : List ℕ) × (f ≡ soft ls) × (k ≡ length ls)
+told_soft : (f : Frame) (k : ℕ) → told_frame f ≡ Some (Soft k) → (ls : List ℕ) × (f ≡ soft ls) × (k ≡ length ls)
 told_soft (header c) k e = cc
 told_soft (hard ls) k e = cc
 told_soft (soft ls) k e = (ls, refl, cc)
 told_soft end k e = cc
 told_soft no_frame k e = cc
 
-told_end : (f : Frame) → told f ≡ Some End → f ≡ end
+told_end : (f : Frame) → told_frame f ≡ Some End → f ≡ end
 told_end (header c) e = cc
 told_end (hard ls) e = cc
 told_end (soft ls) e = cc

@@ -28,16 +28,16 @@ abbrev pub place_after : ℕ → Frame → ℕ
 place_after at f = at + (2 * length (frame_bytes f) + 1)
 
 -- a frame in the code's form: the variable count, or how many literals there are
-abbrev pub told : Frame → Option ToldFrame
-told (header count) = Some (Header count)
-told (hard literals) = Some (Hard (length literals))
-told (soft literals) = Some (Soft (length literals))
-told end = Some End
-told no_frame = None
+abbrev pub told_frame : Frame → Option ToldFrame
+told_frame (header count) = Some (Header count)
+told_frame (hard literals) = Some (Hard (length literals))
+told_frame (soft literals) = Some (Soft (length literals))
+told_frame end = Some End
+told_frame no_frame = None
 
 -- a frame at a place of the text, with the place after its line
 abbrev pub found : ℕ → Frame → Option Found
-found at f = option_map (λ frame. record { frame = frame; next = place_after at f }) (told f)
+found at f = option_map (λ frame. record { frame = frame; next = place_after at f }) (told_frame f)
 
 -- the frame of the line that begins at `at`
 unfoldable pub found_at : List ℕ → ℕ → Option Found
