@@ -1,6 +1,6 @@
 -- The text of a setup (document 01: "The writer puts the header, hard clauses, soft clauses and FF. Its length is
 -- 2 × literals + 3 × clauses + 8").
-use Rattle.std.specs.Prelude.{◌≡◌, refl, List, [], ◌∷◌, ◌++◌, ℕ, ◌+◌, ◌-◌, ◌*◌, ◌<◌, length, get_or}
+use Rattle.std.specs.Prelude.{◌≡◌, refl, List, [], ◌∷◌, ◌++◌, ℕ, ◌+◌, ◌-◌, ◌*◌, ◌<◌, length, get_or, drop}
 use Rattle.setups.specs.Limits.{hard_bytes_most, soft_bytes_most, settings_most}
 use Rattle.setups.specs.Clauses.{clauses}
 use Rattle.digits.specs.Digits.{digit_of}
@@ -10,6 +10,12 @@ use Rattle.frames.specs.Frames.{line, header_kind, hard_kind, soft_kind, end_kin
 abbrev pub clause_lines : ℕ → List (List ℕ) → List ℕ
 clause_lines kind [] = []
 clause_lines kind (clause ∷ rest) = line (kind ∷ clause) ++ clause_lines kind rest
+
+-- of (1), (−2 3) the clause at place 2 is the last, and its line 208203
+example_clause :
+    let last : List ℕ = drop 2 (1 ∷ 0 ∷ 130 ∷ 3 ∷ 0 ∷ []) in
+    (clauses last ≡ (130 ∷ 3 ∷ []) ∷ []) × (clause_lines hard_kind (clauses last) ≡ line (0x20 ∷ 0x82 ∷ 0x03 ∷ []))
+example_clause = (refl, refl)
 
 unfoldable pub setup_text : ℕ → List ℕ → List ℕ → List ℕ
 setup_text count hard soft =
