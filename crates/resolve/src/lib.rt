@@ -5,7 +5,7 @@ ghost use Rattle.std.specs.Prelude.{[], ◌∷◌, ◌≤◌, length};
 ghost use Rattle.setups.specs.Limits.{sets_most};
 ghost use Rattle.setups.specs.Setups.{setup};
 ghost use Rattle.setups.specs.Refusals.{unmet};
-ghost use Rattle.lines.specs.Lines.{answer_lines, Puts};
+ghost use Rattle.lines.specs.Lines.{answer_lines, output_most, Puts};
 ghost use Rattle.resolve.specs.Code.Parts.{AnswersTurn, PutsOrRefuses};
 ghost use Rattle.resolve.specs.Resolve.{PutsOut, Answers, Resolves};
 
@@ -27,6 +27,7 @@ type Output = [u8; OUTPUT_MOST];
 
 // Under Unmet the empty set is the only clash.
 fn put_unmet(output: &mut Output) -> usize
+    requires { output_most ≤ length output.old }
     ensures { Puts (answer_lines unmet [] (0 ∷ [])) output.old result output.new }
 {
     put_line(output, 0, LineKind::Clash.into(), EMPTY);
@@ -41,7 +42,7 @@ fn put_turned(
     scratch: &mut [Set],
     output: &mut Output,
 ) -> Result<usize, Refusal>
-    requires { length ways.now ≤ sets_most }
+    requires { (length ways.now ≤ sets_most) × (output_most ≤ length output.old) }
     ensures { PutsOrRefuses (AnswersTurn settings ways.now scratch.old) result output.old output.new }
 {
     let mut clashes = [EMPTY; SETS_MOST];
@@ -51,6 +52,7 @@ fn put_turned(
 
 // The setup that was read is resolved.
 fn put_resolved(count: u32, hard: &[u8], soft: &[u8], output: &mut Output) -> Result<usize, Refusal>
+    requires { output_most ≤ length output.old }
     ensures { PutsOrRefuses (Answers (setup count hard.now soft.now)) result output.old output.new }
 {
     let mut ways = [EMPTY; SETS_MOST];
@@ -68,6 +70,7 @@ fn put_resolved(count: u32, hard: &[u8], soft: &[u8], output: &mut Output) -> Re
 
 // The setup that the text says is resolved.
 fn put_text(text: &[u8], output: &mut Output) -> Result<usize, Refusal>
+    requires { output_most ≤ length output.old }
     ensures { PutsOrRefuses (Resolves text.now) result output.old output.new }
 {
     let mut hard = [0u8; HARD_BYTES_MOST];
