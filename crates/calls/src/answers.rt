@@ -1,8 +1,22 @@
-// What an answer is printed from: the number and the count that it begins with, and the places that were lent.
+// The answers on their way to standard output: bytes wait here until their line is whole or the places are full.
+ghost use Rattle.std.specs.Prelude.{◌≡◌, ◌+◌, ◌*◌, ◌≤◌, length, IfOk};
+
 use crate::fields::EMPTY_RUN;
 use crate::places::Place;
+use digits::put_bytes;
 use setups::{FINISHED, Refusal};
-use std::fmt;
+use std::io;
+
+// How many bytes wait at the most, and of how many bytes the digits are put at once.
+const WAITING_MOST: usize = 8_192;
+
+pub const PART: usize = WAITING_MOST / 2;
+
+// How many values a number has.
+const NUMBERS: u64 = 0x1_0000_0000;
+
+// What stands before each field of an answer.
+const SPACE: u8 = b' ';
 
 // The number of what a job answers, and what it tells (places filled); a refusal tells none, and each count is 0.
 pub fn outcome<T: Default>(answer: Result<T, Refusal>) -> (u8, T) {
@@ -12,18 +26,74 @@ pub fn outcome<T: Default>(answer: Result<T, Refusal>) -> (u8, T) {
     }
 }
 
-// The field of a run of places.
+// The bytes that wait are the first `filled` of the places.
 #[derive(Drop)]
-pub struct Run<'a, P>(pub &'a [P]);
+pub struct Output<'a, R> {
+    rt: &'a R,
+    waiting: [u8; WAITING_MOST],
+    filled: usize,
+    ghost within: { filled ≤ 8192 },
+}
 
-impl<P: Place> fmt::Display for Run<'_, P> {
-    fn fmt<W: fmt::Write>(&self, to: &mut fmt::Formatter<W>) -> fmt::Result {
-        if self.0.is_empty() {
-            return to.write_str(EMPTY_RUN);
+impl<'a, R: Print> Output<'a, R> {
+    pub fn new(rt: &'a R) -> Output<'a, R> {
+        Output {
+            rt,
+            waiting: [0; WAITING_MOST],
+            filled: 0,
         }
-        for place in self.0 {
-            place.write_digits(to)?;
+    }
+
+    // Writes what waits.
+    pub fn flush(&mut self) -> io::Result<()>
+        ensures { self.new.filled ≡ 0 }
+    {
+        let filled = self.filled;
+        self.filled = 0;
+        self.rt.write_all(&self.waiting[..filled])
+    }
+
+    // Sees that so many places are left.
+    fn make_room(&mut self, places: usize) -> io::Result<()>
+        requires { places ≤ 8192 }
+        ensures { IfOk result (λ _. self.new.filled + places ≤ 8192) }
+    {
+        if WAITING_MOST - self.filled < places {
+            return self.flush();
         }
         Ok(())
+    }
+
+    pub fn byte(&mut self, byte: u8) -> io::Result<()> {
+        self.make_room(1)?;
+        self.waiting[self.filled] = byte;
+        self.filled += 1;
+        Ok(())
+    }
+
+    // Puts the two digits of each byte, of PART bytes at the most.
+    pub fn digits(&mut self, bytes: &[u8]) -> io::Result<()>
+        requires { 2 * length bytes.now ≤ 8192 }
+    {
+        self.make_room(2 * bytes.len())?;
+        put_bytes(&mut self.waiting, self.filled, bytes);
+        self.filled += 2 * bytes.len();
+        Ok(())
+    }
+
+    // Puts the field of a number, its last eight digits.
+    pub fn number(&mut self, number: u64) -> io::Result<()> {
+        let last = (number % NUMBERS) as u32;
+        self.byte(SPACE)?;
+        self.digits(&last.to_be_bytes())
+    }
+
+    // Puts the field of a run of places.
+    pub fn run<P: Place>(&mut self, places: &[P]) -> io::Result<()> {
+        self.byte(SPACE)?;
+        if places.is_empty() {
+            return self.byte(EMPTY_RUN);
+        }
+        P::put_digits(places, self)
     }
 }

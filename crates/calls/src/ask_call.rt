@@ -1,24 +1,29 @@
 // A call of Ask, `A count clauses assumed budget modelroom`, and its answer, `A number visits model`.
-use crate::answers::Run;
+use crate::answers::Output;
 use crate::fields::{Failure, number, room, run};
+use crate::places::Lent;
 use ask::Asked;
 use setups::{FINISHED, NO_MODEL};
-use std::alloc::Global;
 
-pub fn answer(alloc: Global, fields: &[&[u8]]) -> Result<String, Failure> {
-    let [count, clauses, assumed, budget, model_room] = fields else {
-        return Err(Failure::NoCall);
-    };
+pub fn answer<R: Print>(
+    output: &mut Output<R>,
+    lent: &mut Lent,
+    fields: [&[u8]; 5],
+) -> Result<(), Failure> {
+    let [count, clauses, assumed, budget, model_room] = fields;
     let count = number(count)?;
-    let clauses = run::<u8>(alloc, clauses)?;
-    let assumed = run::<u8>(alloc, assumed)?;
+    let clauses = run(clauses, &mut lent.first)?;
+    let assumed = run(assumed, &mut lent.second)?;
     let budget = number(budget)?;
-    let mut model = room::<u8>(alloc, model_room)?;
-    let (number, visits) = match ask::ask(count, &clauses, &assumed, budget, &mut model) {
+    let model = room(model_room, &mut lent.third)?;
+    let (number, visits) = match ask::ask(count, clauses, assumed, budget, model) {
         Ok(Asked::Model(visits)) => (FINISHED, visits),
         Ok(Asked::None(visits)) => (NO_MODEL, visits),
         Err(refusal) => (refusal.into(), 0),
     };
-    let model = Run(&model);
-    Ok(format!(in alloc; "A {number:08X} {visits:08X} {model}")?)
+    output.byte(b'A')?;
+    output.number(u64::from(number))?;
+    output.number(u64::from(visits))?;
+    output.run(model)?;
+    Ok(())
 }

@@ -1,30 +1,24 @@
 // The fields of a call, each a number, a run of places or how many places are lent, in upper-case hexadecimal digits.
 use crate::places::Place;
 use digits::value_of_digit;
-use std::alloc::{AllocError, AllocFailed, Global};
+use std::io;
 
 // How many digits a number has.
 const NUMBER_DIGITS: usize = 8;
 
 // What stands for an empty run.
-pub const EMPTY_RUN: &str = "-";
+pub const EMPTY_RUN: u8 = b'-';
 
-// Why a line is not answered as a call is.
+// Why a line is not answered as a call is: it is none, or the answer can't be written.
 #[derive(Debug, Drop)]
 pub enum Failure {
     NoCall,
-    OutOfMemory(AllocError),
+    Unwritten(io::Error),
 }
 
-impl From<AllocError> for Failure {
-    fn from(error: AllocError) -> Failure {
-        Failure::OutOfMemory(error)
-    }
-}
-
-impl<T: Drop> From<AllocFailed<T>> for Failure {
-    fn from(error: AllocFailed<T>) -> Failure {
-        Failure::OutOfMemory(error.into())
+impl From<io::Error> for Failure {
+    fn from(error: io::Error) -> Failure {
+        Failure::Unwritten(error)
     }
 }
 
@@ -43,27 +37,31 @@ pub fn number(field: &[u8]) -> Result<u32, Failure> {
     value(field).ok_or(Failure::NoCall)
 }
 
-// The places of a run.
-pub fn run<P: Place>(alloc: Global, field: &[u8]) -> Result<Vec<P>, Failure> {
-    let mut places = Vec::new(alloc);
-    if field == EMPTY_RUN.as_bytes() {
-        return Ok(places);
+// Puts a run into places, and gives those that it fills.
+pub fn run<'a, P: Place>(field: &[u8], places: &'a mut [P]) -> Result<&'a [P], Failure> {
+    if field == [EMPTY_RUN].as_slice() {
+        return Ok(&[]);
     }
     let parts = field.chunks_exact(P::DIGITS);
-    if field.is_empty() || !parts.remainder().is_empty() || P::MOST < parts.len() {
+    let filled = parts.len();
+    if field.is_empty() || !parts.remainder().is_empty() || places.len() < filled {
         return Err(Failure::NoCall);
     }
-    for digits in parts {
-        places.push(P::from_digits(digits).ok_or(Failure::NoCall)?)?;
+    for (place, digits) in places.iter_mut().zip(parts) {
+        *place = P::from_digits(digits).ok_or(Failure::NoCall)?;
     }
-    Ok(places)
+    Ok(&places[..filled])
 }
 
-// As many places as the field's number says, each as it is before the call.
-pub fn room<P: Place>(alloc: Global, field: &[u8]) -> Result<Vec<P>, Failure> {
+// As many of the places as the field's number says, each as it is before the call.
+pub fn room<'a, P: Place>(field: &[u8], places: &'a mut [P]) -> Result<&'a mut [P], Failure> {
     let count = number(field)? as usize;
-    if P::MOST < count {
+    if places.len() < count {
         return Err(Failure::NoCall);
     }
-    Ok(vec![in alloc; P::OLD; count]?)
+    let room = &mut places[..count];
+    for place in &mut *room {
+        *place = P::OLD;
+    }
+    Ok(room)
 }

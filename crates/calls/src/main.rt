@@ -12,55 +12,106 @@ mod read_call;
 mod turn_call;
 mod write_call;
 
+use answers::Output;
 use fields::Failure;
 use frames::LINE_FEED;
-use std::alloc::Global;
+use places::Lent;
 use std::io::{self, Read};
 
 // How many bytes of input are taken at the most: 2 MiB.
-const INPUT_MOST: u64 = 0x20_0000;
+const INPUT_MOST: usize = 0x20_0000;
+
+type Input = [u8; INPUT_MOST];
 
 // What stands between two fields.
 const SPACE: u8 = b' ';
 
-// How many fields a call has at the most, with its letter; a line of more is none.
-const FIELDS_MOST: usize = 6;
+// The answer to a line that is no call.
+const NO_CALL: u8 = b'?';
 
-// What answers a line: the letter is its first field, and the fields after it are the job's.
-fn answer(alloc: Global, line: &[u8]) -> Result<String, Failure> {
-    let fields: Vec<&[u8]> = line
-        .split(|byte| *byte == SPACE)
-        .take(FIELDS_MOST + 1)
-        .collect(alloc)?;
-    match fields.as_slice() {
-        [b"A", fields @ ..] => ask_call::answer(alloc, fields),
-        [b"L", fields @ ..] => list_call::answer(alloc, fields),
-        [b"T", fields @ ..] => turn_call::answer(alloc, fields),
-        [b"M", fields @ ..] => mark_call::answer(alloc, fields),
-        [b"R", fields @ ..] => read_call::answer(alloc, fields),
-        [b"W", fields @ ..] => write_call::answer(alloc, fields),
+// Answers a line: the letter is its first field, and the fields after it are the job's.
+fn answer<R: Print>(output: &mut Output<R>, lent: &mut Lent, line: &[u8]) -> Result<(), Failure> {
+    let mut fields = line.split(|byte| *byte == SPACE);
+    let fields = [
+        fields.next(),
+        fields.next(),
+        fields.next(),
+        fields.next(),
+        fields.next(),
+        fields.next(),
+        fields.next(),
+    ];
+    match fields {
+        [
+            Some(b"A"),
+            Some(a),
+            Some(b),
+            Some(c),
+            Some(d),
+            Some(e),
+            None,
+        ] => { ask_call::answer(output, lent, [a, b, c, d, e]) }
+        [
+            Some(b"L"),
+            Some(a),
+            Some(b),
+            Some(c),
+            Some(d),
+            Some(e),
+            None,
+        ] => { list_call::answer(output, lent, [a, b, c, d, e]) }
+        [Some(b"T"), Some(a), Some(b), Some(c), Some(d), None, None] => {
+            turn_call::answer(output, lent, [a, b, c, d])
+        }
+        [Some(b"M"), Some(a), Some(b), Some(c), None, None, None] => {
+            mark_call::answer(output, lent, [a, b, c])
+        }
+        [Some(b"R"), Some(a), Some(b), Some(c), None, None, None] => {
+            read_call::answer(output, lent, [a, b, c])
+        }
+        [Some(b"W"), Some(a), Some(b), Some(c), Some(d), None, None] => {
+            write_call::answer(output, lent, [a, b, c, d])
+        }
         _ => Err(Failure::NoCall),
     }
 }
 
 // Writes what answers a line; what lies after the last line feed is no call.
-fn write_answer(rt: &impl Print, alloc: Global, line: &[u8]) -> io::Result<()> {
+fn write_answer<R: Print>(output: &mut Output<R>, lent: &mut Lent, line: &[u8]) -> io::Result<()> {
     let answered = match line.strip_suffix(&[LINE_FEED]) {
-        Some(line) => answer(alloc, line),
+        Some(line) => answer(output, lent, line),
         None => Err(Failure::NoCall),
     };
     match answered {
-        Ok(answer) => println!(rt; "{answer}"),
-        Err(Failure::NoCall) => println!(rt; "?"),
-        Err(Failure::OutOfMemory(error)) => Err(error.into()),
+        Ok(()) => {}
+        Err(Failure::NoCall) => output.byte(NO_CALL)?,
+        Err(Failure::Unwritten(error)) => return Err(error),
     }
+    output.byte(LINE_FEED)?;
+    output.flush()
+}
+
+// Answers the lines of the input in order.
+fn answer_all<R: Print>(rt: &R, input: &[u8]) -> io::Result<()> {
+    let mut lent = Lent::new();
+    let mut output = Output::new(rt);
+    for line in input.split_inclusive(|byte| *byte == LINE_FEED) {
+        write_answer(&mut output, &mut lent, line)?;
+    }
+    Ok(())
+}
+
+// Reads standard input until the places are full or it ends, and answers it.
+fn answer_input(rt: &HostRuntime, places: &mut Input) -> io::Result<()> {
+    // No more comes than there are places; `copy` doesn't promise it.
+    let taken = io::copy(
+        &mut rt.stdin().take(INPUT_MOST as u64),
+        &mut &mut places[..],
+    )?;
+    answer_all(rt, &places[..INPUT_MOST.min(taken as usize)])
 }
 
 fn main(rt: HostRuntime) -> io::Result<()> {
-    let mut input = Vec::new(rt.alloc());
-    rt.stdin().take(INPUT_MOST).read_to_end(&mut input)?;
-    for line in input.split_inclusive(|byte| *byte == LINE_FEED) {
-        write_answer(&rt, rt.alloc(), line)?;
-    }
-    Ok(())
+    let mut places = [0u8; INPUT_MOST];
+    answer_input(&rt, &mut places)
 }

@@ -1,17 +1,21 @@
 // A call of Mark, `M settings list markroom`, and its answer, `M number filled marks`.
-use crate::answers::{Run, outcome};
+use crate::answers::{Output, outcome};
 use crate::fields::{Failure, number, room, run};
-use sets::Set;
-use std::alloc::Global;
+use crate::places::Lent;
 
-pub fn answer(alloc: Global, fields: &[&[u8]]) -> Result<String, Failure> {
-    let [settings, list, mark_room] = fields else {
-        return Err(Failure::NoCall);
-    };
+pub fn answer<R: Print>(
+    output: &mut Output<R>,
+    lent: &mut Lent,
+    fields: [&[u8]; 3],
+) -> Result<(), Failure> {
+    let [settings, list, mark_room] = fields;
     let settings = number(settings)?;
-    let list = run::<Set>(alloc, list)?;
-    let mut marks = room::<u8>(alloc, mark_room)?;
-    let (number, filled) = outcome(mark::mark(settings, &list, &mut marks));
-    let marks = Run(&marks);
-    Ok(format!(in alloc; "M {number:08X} {filled:08X} {marks}")?)
+    let list = run(list, &mut lent.given)?;
+    let marks = room(mark_room, &mut lent.first)?;
+    let (number, filled) = outcome(mark::mark(settings, list, marks));
+    output.byte(b'M')?;
+    output.number(u64::from(number))?;
+    output.number(u64::from(filled))?;
+    output.run(marks)?;
+    Ok(())
 }

@@ -1,10 +1,21 @@
 // The places that a call's arguments are put into, and those that are lent to its job: bytes and sets.
-ghost use Rattle.std.specs.Prelude.{ℕ, ◌<◌};
+ghost use Rattle.std.specs.Prelude.{ℕ, ◌*◌, ◌<◌, ◌≤◌, length};
 ghost use Rattle.std.proofs.Common.{rules};
 
+use crate::answers::{Output, PART};
 use crate::fields::value;
 use sets::Set;
-use std::fmt;
+use std::io;
+
+// How many bytes and how many sets an argument or a room has at the most: more than any job takes, so that Size can be tried.
+pub const BYTES_MOST: usize = 40_000;
+
+pub const SETS_MOST: usize = 2_048;
+
+// How many bytes a set has, and of how many sets the digits are put at once.
+const SET_BYTES: usize = 4;
+
+const SETS_PART: usize = 64;
 
 pub trait Place: Copy {
     // How many digits a place has.
@@ -12,15 +23,13 @@ pub trait Place: Copy {
 
     const DIGITS: usize;
 
-    // How many places an argument or a room has at the most: more than any job takes, so that Size can be tried.
-    const MOST: usize;
-
     // What each lent place holds before the call.
     const OLD: Self;
 
     fn from_digits(digits: &[u8]) -> Option<Self>;
 
-    fn write_digits<W: fmt::Write>(self, to: &mut fmt::Formatter<W>) -> fmt::Result;
+    // Puts the digits of places.
+    fn put_digits<R: Print>(places: &[Self], output: &mut Output<R>) -> io::Result<()>;
 
     ghost some_digits: { 0 < DIGITS };
 }
@@ -30,19 +39,31 @@ impl Place for u8 {
 
     const DIGITS: usize = 2;
 
-    const MOST: usize = 40_000;
-
     const OLD: u8 = 0xA5;
 
     fn from_digits(digits: &[u8]) -> Option<u8> {
         u8::try_from(value(digits)?).ok()
     }
 
-    fn write_digits<W: fmt::Write>(self, to: &mut fmt::Formatter<W>) -> fmt::Result {
-        write!(to, "{self:02X}")
+    fn put_digits<R: Print>(places: &[u8], output: &mut Output<R>) -> io::Result<()> {
+        for part in places.chunks(PART) {
+            output.digits(part)?;
+        }
+        Ok(())
     }
 
     ghost some_digits = { Prim.search rules };
+}
+
+// Puts the digits of sets, of SETS_PART at the most.
+fn put_sets<R: Print>(sets: &[Set], output: &mut Output<R>) -> io::Result<()>
+    requires { 4 * length sets.now ≤ 256 }
+{
+    let mut bytes = [0u8; SET_BYTES * SETS_PART];
+    for (place, set) in bytes.chunks_exact_mut(SET_BYTES).zip(sets) {
+        place.copy_from_slice(&set.to_be_bytes());
+    }
+    output.digits(&bytes[..SET_BYTES * sets.len()])
 }
 
 impl Place for Set {
@@ -50,17 +71,42 @@ impl Place for Set {
 
     const DIGITS: usize = 8;
 
-    const MOST: usize = 2_048;
-
     const OLD: Set = 0xA5A5_A5A5;
 
     fn from_digits(digits: &[u8]) -> Option<Set> {
         value(digits)
     }
 
-    fn write_digits<W: fmt::Write>(self, to: &mut fmt::Formatter<W>) -> fmt::Result {
-        write!(to, "{self:08X}")
+    fn put_digits<R: Print>(places: &[Set], output: &mut Output<R>) -> io::Result<()> {
+        for part in places.chunks(SETS_PART) {
+            put_sets(part, output)?;
+        }
+        Ok(())
     }
 
     ghost some_digits = { Prim.search rules };
+}
+
+// All places that a call needs: three runs or rooms of bytes and three of sets. What they hold before a call means nothing.
+#[derive(Drop)]
+pub struct Lent {
+    pub first: [u8; BYTES_MOST],
+    pub second: [u8; BYTES_MOST],
+    pub third: [u8; BYTES_MOST],
+    pub given: [Set; SETS_MOST],
+    pub list: [Set; SETS_MOST],
+    pub scratch: [Set; SETS_MOST],
+}
+
+impl Lent {
+    pub fn new() -> Lent {
+        Lent {
+            first: [0; BYTES_MOST],
+            second: [0; BYTES_MOST],
+            third: [0; BYTES_MOST],
+            given: [0; SETS_MOST],
+            list: [0; SETS_MOST],
+            scratch: [0; SETS_MOST],
+        }
+    }
 }

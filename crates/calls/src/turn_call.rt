@@ -1,19 +1,23 @@
 // A call of Turn, `T settings list room scratchroom`, and its answer, `T number filled list scratch`.
-use crate::answers::{Run, outcome};
+use crate::answers::{Output, outcome};
 use crate::fields::{Failure, number, room, run};
-use sets::Set;
-use std::alloc::Global;
+use crate::places::Lent;
 
-pub fn answer(alloc: Global, fields: &[&[u8]]) -> Result<String, Failure> {
-    let [settings, list, list_room, scratch_room] = fields else {
-        return Err(Failure::NoCall);
-    };
+pub fn answer<R: Print>(
+    output: &mut Output<R>,
+    lent: &mut Lent,
+    fields: [&[u8]; 4],
+) -> Result<(), Failure> {
+    let [settings, list, list_room, scratch_room] = fields;
     let settings = number(settings)?;
-    let list = run::<Set>(alloc, list)?;
-    let mut turned = room::<Set>(alloc, list_room)?;
-    let mut scratch = room::<Set>(alloc, scratch_room)?;
-    let (number, filled) = outcome(turn::turn(settings, &list, &mut turned, &mut scratch));
-    let turned = Run(&turned);
-    let scratch = Run(&scratch);
-    Ok(format!(in alloc; "T {number:08X} {filled:08X} {turned} {scratch}")?)
+    let list = run(list, &mut lent.given)?;
+    let turned = room(list_room, &mut lent.list)?;
+    let scratch = room(scratch_room, &mut lent.scratch)?;
+    let (number, filled) = outcome(turn::turn(settings, list, turned, scratch));
+    output.byte(b'T')?;
+    output.number(u64::from(number))?;
+    output.number(filled as u64)?;
+    output.run(turned)?;
+    output.run(scratch)?;
+    Ok(())
 }

@@ -1,17 +1,22 @@
 // A call of Write, `W count hard soft textroom`, and its answer, `W number filled text`.
-use crate::answers::{Run, outcome};
+use crate::answers::{Output, outcome};
 use crate::fields::{Failure, number, room, run};
-use std::alloc::Global;
+use crate::places::Lent;
 
-pub fn answer(alloc: Global, fields: &[&[u8]]) -> Result<String, Failure> {
-    let [count, hard, soft, text_room] = fields else {
-        return Err(Failure::NoCall);
-    };
+pub fn answer<R: Print>(
+    output: &mut Output<R>,
+    lent: &mut Lent,
+    fields: [&[u8]; 4],
+) -> Result<(), Failure> {
+    let [count, hard, soft, text_room] = fields;
     let count = number(count)?;
-    let hard = run::<u8>(alloc, hard)?;
-    let soft = run::<u8>(alloc, soft)?;
-    let mut text = room::<u8>(alloc, text_room)?;
-    let (number, filled) = outcome(write::write(count, &hard, &soft, &mut text));
-    let text = Run(&text);
-    Ok(format!(in alloc; "W {number:08X} {filled:08X} {text}")?)
+    let hard = run(hard, &mut lent.first)?;
+    let soft = run(soft, &mut lent.second)?;
+    let text = room(text_room, &mut lent.third)?;
+    let (number, filled) = outcome(write::write(count, hard, soft, text));
+    output.byte(b'W')?;
+    output.number(u64::from(number))?;
+    output.number(filled as u64)?;
+    output.run(text)?;
+    Ok(())
 }
