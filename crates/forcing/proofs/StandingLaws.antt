@@ -40,10 +40,10 @@ looked_possible Sure b x = refl
 
 -- ---- every clause has a true literal
 
--- at place i: the clauses from there on, of which the first has `chance`, decide for all
-pub record Meeting (values hard : List ℕ) (chance : Chance) (i : ℕ) : Type 0 where
+-- at place i: the clauses from there on, of which the first is `sure` so far, decide for all
+pub record Meeting (values hard : List ℕ) (sure : Bool) (i : ℕ) : Type 0 where
   pub upto : i ≤ length hard
-  pub gives : all_of (verdicts (is_true values) (is_sure chance) (clauses (drop i hard))) ≡ all_pass (is_true values) (clauses hard)
+  pub gives : all_of (verdicts (is_true values) sure (clauses (drop i hard))) ≡ all_pass (is_true values) (clauses hard)
 
-pub meeting_starts : {values hard : List ℕ} {chance : Chance} → chance ≡ AllFalse → Meeting values hard chance 0
+pub meeting_starts : {values hard : List ℕ} {sure : Bool} → sure ≡ false → Meeting values hard sure 0
 meeting_starts {values} {hard} e = rw e (record { upto = zero-le; gives = verdict_all (is_true values) (clauses hard) })

@@ -1,12 +1,13 @@
 // Rules that force values: each clause that has to be true, and each setting that has to be broken.
 ghost use Rattle.std.specs.Prelude.{◌≡◌, true, false, ◌^◌, ◌<◌, length};
+ghost use Rattle.std.specs.Option.{option_map};
 ghost use Rattle.setups.specs.Setups.{settings};
 ghost use Rattle.forcing.specs.Holding.{is_true, AllBroken};
 ghost use Rattle.forcing.specs.Selectors.{Owing, OwingBoth};
 ghost use Rattle.forcing.specs.Rules.{unmoved, KeepsAnswers, StillFree, EndsTrue};
 
 use crate::selectors::{FIRST_SELECTOR, has_selector, next_selector};
-use crate::values::{with_false, with_true};
+use crate::values::with_false;
 use literals::{Values, see, slot, wish};
 use numbers::Selector;
 use sets::Set;
@@ -31,18 +32,19 @@ impl Progress {
     }
 
     // A clause ends that has to be true: it fails where it is wholly false, and makes its one free literal true.
-    fn end_clause(self, seen: Seen) -> Option<Progress>
-        requires { StillFree self.values seen }
-        ensures { KeepsAnswers (λ m. EndsTrue m seen) self result }
+    fn end_clause(&mut self, seen: Seen) -> Option<()>
+        requires { StillFree self.old.values seen }
+        ensures { KeepsAnswers (λ m. EndsTrue m seen) self.old (option_map (λ _. self.new) result) }
     {
         match seen {
-            Seen::AllFalse => None,
-            Seen::OneFree(literal) => Some(Progress {
-                moved: true,
-                values: with_true(self.values, literal),
-            }),
-            Seen::Enough => Some(self),
+            Seen::AllFalse => return None,
+            Seen::OneFree(literal) => {
+                self.moved = true;
+                self.values[slot(literal)] = wish(literal);
+            }
+            Seen::Enough => {}
         }
+        Some(())
     }
 
     // One pass over the clauses, of which those have to be true whose selector is due; it goes on after a forced literal.
@@ -56,7 +58,7 @@ impl Progress {
         for &byte in clauses {
             if byte == 0 {
                 if due(selector) {
-                    forced = forced.end_clause(seen)?;
+                    forced.end_clause(seen)?;
                 }
                 seen = Seen::AllFalse;
                 selector = next_selector(selector);

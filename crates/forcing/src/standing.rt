@@ -40,15 +40,15 @@ fn look(chance: Chance, literal: u8, value: u8) -> Chance
 pub fn met(values: Values, hard: &[u8]) -> bool
     ensures { result ≡ all_pass (is_true values) (clauses hard.now) }
 {
-    let mut chance = Chance::AllFalse;
+    let mut sure = false;
     for &byte in hard {
         if byte == 0 {
-            if chance != Chance::Sure {
+            if !sure {
                 return false;
             }
-            chance = Chance::AllFalse;
+            sure = false;
         } else {
-            chance = look(chance, byte, values[slot(byte)]);
+            sure |= values[slot(byte)] == wish(byte);
         }
     }
     true

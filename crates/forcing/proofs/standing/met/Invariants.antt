@@ -3,4 +3,4 @@ use Rattle.forcing.proofs.StandingLaws.{Meeting}
 use Rattle.forcing.proofs.standing.met.Given as goal
 
 abbrev pub invariant-loop-byte : goal.invariant-loop-byte
-invariant-loop-byte l = Meeting l.values l.hard l.chance l.byte-index
+invariant-loop-byte l = Meeting l.values l.hard l.sure l.byte-index

@@ -5,5 +5,5 @@ use Rattle.forcing.proofs.forcing.Progress.end_clause.Goals as goal
 pub returns-in-OneFree : goal.returns-in-OneFree
 returns-in-OneFree c =
     let a = c.args in
-    rw c.with_true.ensures
-    (ends_one a.self a.seen _ c.in-OneFree.is c.requires)
+    rw (c.slot.ensures, c.wish.ensures)
+    (ends_one a.self.now a.seen _ c.in-OneFree.is c.requires)
