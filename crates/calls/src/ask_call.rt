@@ -1,6 +1,6 @@
 // A call of Ask, `A count clauses assumed budget modelroom`, and its answer, `A number visits model`.
 use crate::answers::Output;
-use crate::fields::{Failure, number, room, run};
+use crate::fields::{Failure, Fields, number, room, run};
 use crate::places::Lent;
 use ask::Asked;
 use setups::{FINISHED, NO_MODEL};
@@ -8,9 +8,19 @@ use setups::{FINISHED, NO_MODEL};
 pub fn answer<R: Print>(
     output: &mut Output<R>,
     lent: &mut Lent,
-    fields: [&[u8]; 5],
+    fields: Fields,
 ) -> Result<(), Failure> {
-    let [count, clauses, assumed, budget, model_room] = fields;
+    let [
+        Some(count),
+        Some(clauses),
+        Some(assumed),
+        Some(budget),
+        Some(model_room),
+        None,
+    ] = fields
+    else {
+        return Err(Failure::NoCall);
+    };
     let count = number(count)?;
     let clauses = run(clauses, &mut lent.first)?;
     let assumed = run(assumed, &mut lent.second)?;

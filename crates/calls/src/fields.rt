@@ -9,6 +9,9 @@ const NUMBER_DIGITS: usize = 8;
 // What stands for an empty run.
 pub const EMPTY_RUN: u8 = b'-';
 
+// The fields after a call's letter; no job has as many as six.
+pub type Fields<'a> = [Option<&'a [u8]>; 6];
+
 // Why a line is not answered as a call is: it is none, or the answer can't be written.
 #[derive(Debug, Drop)]
 pub enum Failure {

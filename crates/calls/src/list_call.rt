@@ -1,6 +1,6 @@
 // A call of List, `L count hard soft room scratchroom`, and its answer, `L number filled list scratch`.
 use crate::answers::Output;
-use crate::fields::{Failure, number, room, run};
+use crate::fields::{Failure, Fields, number, room, run};
 use crate::places::Lent;
 use list::Listing;
 use setups::{FINISHED, UNMET};
@@ -8,9 +8,19 @@ use setups::{FINISHED, UNMET};
 pub fn answer<R: Print>(
     output: &mut Output<R>,
     lent: &mut Lent,
-    fields: [&[u8]; 5],
+    fields: Fields,
 ) -> Result<(), Failure> {
-    let [count, hard, soft, list_room, scratch_room] = fields;
+    let [
+        Some(count),
+        Some(hard),
+        Some(soft),
+        Some(list_room),
+        Some(scratch_room),
+        None,
+    ] = fields
+    else {
+        return Err(Failure::NoCall);
+    };
     let count = number(count)?;
     let hard = run(hard, &mut lent.first)?;
     let soft = run(soft, &mut lent.second)?;

@@ -29,49 +29,25 @@ const SPACE: u8 = b' ';
 // The answer to a line that is no call.
 const NO_CALL: u8 = b'?';
 
-// Answers a line: the letter is its first field, and the fields after it are the job's.
+// Answers a line: the letter is its first field, and the fields after it are the job's; a seventh would be one too many.
 fn answer<R: Print>(output: &mut Output<R>, lent: &mut Lent, line: &[u8]) -> Result<(), Failure> {
-    let mut fields = line.split(|byte| *byte == SPACE);
+    let mut parts = line.split(|byte| *byte == SPACE);
+    let letter = parts.next();
     let fields = [
-        fields.next(),
-        fields.next(),
-        fields.next(),
-        fields.next(),
-        fields.next(),
-        fields.next(),
-        fields.next(),
+        parts.next(),
+        parts.next(),
+        parts.next(),
+        parts.next(),
+        parts.next(),
+        parts.next(),
     ];
-    match fields {
-        [
-            Some(b"A"),
-            Some(a),
-            Some(b),
-            Some(c),
-            Some(d),
-            Some(e),
-            None,
-        ] => { ask_call::answer(output, lent, [a, b, c, d, e]) }
-        [
-            Some(b"L"),
-            Some(a),
-            Some(b),
-            Some(c),
-            Some(d),
-            Some(e),
-            None,
-        ] => { list_call::answer(output, lent, [a, b, c, d, e]) }
-        [Some(b"T"), Some(a), Some(b), Some(c), Some(d), None, None] => {
-            turn_call::answer(output, lent, [a, b, c, d])
-        }
-        [Some(b"M"), Some(a), Some(b), Some(c), None, None, None] => {
-            mark_call::answer(output, lent, [a, b, c])
-        }
-        [Some(b"R"), Some(a), Some(b), Some(c), None, None, None] => {
-            read_call::answer(output, lent, [a, b, c])
-        }
-        [Some(b"W"), Some(a), Some(b), Some(c), Some(d), None, None] => {
-            write_call::answer(output, lent, [a, b, c, d])
-        }
+    match letter {
+        Some(b"A") => ask_call::answer(output, lent, fields),
+        Some(b"L") => list_call::answer(output, lent, fields),
+        Some(b"T") => turn_call::answer(output, lent, fields),
+        Some(b"M") => mark_call::answer(output, lent, fields),
+        Some(b"R") => read_call::answer(output, lent, fields),
+        Some(b"W") => write_call::answer(output, lent, fields),
         _ => Err(Failure::NoCall),
     }
 }

@@ -1,14 +1,24 @@
 // A call of Mark, `M settings list markroom`, and its answer, `M number filled marks`.
 use crate::answers::{Output, outcome};
-use crate::fields::{Failure, number, room, run};
+use crate::fields::{Failure, Fields, number, room, run};
 use crate::places::Lent;
 
 pub fn answer<R: Print>(
     output: &mut Output<R>,
     lent: &mut Lent,
-    fields: [&[u8]; 3],
+    fields: Fields,
 ) -> Result<(), Failure> {
-    let [settings, list, mark_room] = fields;
+    let [
+        Some(settings),
+        Some(list),
+        Some(mark_room),
+        None,
+        None,
+        None,
+    ] = fields
+    else {
+        return Err(Failure::NoCall);
+    };
     let settings = number(settings)?;
     let list = run(list, &mut lent.given)?;
     let marks = room(mark_room, &mut lent.first)?;

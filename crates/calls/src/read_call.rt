@@ -1,15 +1,25 @@
 // A call of Read, `R text hardroom softroom`, and its answer, `R number count hardfilled softfilled hard soft`.
 use crate::answers::{Output, outcome};
-use crate::fields::{Failure, room, run};
+use crate::fields::{Failure, Fields, room, run};
 use crate::places::Lent;
 use read::ReadSetup;
 
 pub fn answer<R: Print>(
     output: &mut Output<R>,
     lent: &mut Lent,
-    fields: [&[u8]; 3],
+    fields: Fields,
 ) -> Result<(), Failure> {
-    let [text, hard_room, soft_room] = fields;
+    let [
+        Some(text),
+        Some(hard_room),
+        Some(soft_room),
+        None,
+        None,
+        None,
+    ] = fields
+    else {
+        return Err(Failure::NoCall);
+    };
     let text = run(text, &mut lent.first)?;
     let hard = room(hard_room, &mut lent.second)?;
     let soft = room(soft_room, &mut lent.third)?;

@@ -1,14 +1,24 @@
 // A call of Turn, `T settings list room scratchroom`, and its answer, `T number filled list scratch`.
 use crate::answers::{Output, outcome};
-use crate::fields::{Failure, number, room, run};
+use crate::fields::{Failure, Fields, number, room, run};
 use crate::places::Lent;
 
 pub fn answer<R: Print>(
     output: &mut Output<R>,
     lent: &mut Lent,
-    fields: [&[u8]; 4],
+    fields: Fields,
 ) -> Result<(), Failure> {
-    let [settings, list, list_room, scratch_room] = fields;
+    let [
+        Some(settings),
+        Some(list),
+        Some(list_room),
+        Some(scratch_room),
+        None,
+        None,
+    ] = fields
+    else {
+        return Err(Failure::NoCall);
+    };
     let settings = number(settings)?;
     let list = run(list, &mut lent.given)?;
     let turned = room(list_room, &mut lent.list)?;

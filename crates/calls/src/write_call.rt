@@ -1,14 +1,24 @@
 // A call of Write, `W count hard soft textroom`, and its answer, `W number filled text`.
 use crate::answers::{Output, outcome};
-use crate::fields::{Failure, number, room, run};
+use crate::fields::{Failure, Fields, number, room, run};
 use crate::places::Lent;
 
 pub fn answer<R: Print>(
     output: &mut Output<R>,
     lent: &mut Lent,
-    fields: [&[u8]; 4],
+    fields: Fields,
 ) -> Result<(), Failure> {
-    let [count, hard, soft, text_room] = fields;
+    let [
+        Some(count),
+        Some(hard),
+        Some(soft),
+        Some(text_room),
+        None,
+        None,
+    ] = fields
+    else {
+        return Err(Failure::NoCall);
+    };
     let count = number(count)?;
     let hard = run(hard, &mut lent.first)?;
     let soft = run(soft, &mut lent.second)?;
