@@ -1,7 +1,7 @@
 // The answers on their way to standard output: bytes wait here until their line is whole or the places are full.
 ghost use Rattle.std.specs.Prelude.{◌≡◌, ◌+◌, ◌*◌, ◌≤◌, length, IfOk};
 
-use crate::fields::EMPTY_RUN;
+use crate::fields::{EMPTY_RUN, SPACE};
 use crate::places::Place;
 use digits::put_bytes;
 use setups::{FINISHED, Refusal};
@@ -14,9 +14,6 @@ pub const PART: usize = WAITING_MOST / 2;
 
 // How many values a number has.
 const NUMBERS: u64 = 0x1_0000_0000;
-
-// What stands before each field of an answer.
-const SPACE: u8 = b' ';
 
 // The number of what a job answers, and what it tells (places filled); a refusal tells none, and each count is 0.
 pub fn outcome<T: Default>(answer: Result<T, Refusal>) -> (u8, T) {

@@ -6,6 +6,9 @@ use std::io;
 // How many digits a number has.
 const NUMBER_DIGITS: usize = 8;
 
+// What stands between two fields.
+pub const SPACE: u8 = b' ';
+
 // What stands for an empty run.
 pub const EMPTY_RUN: u8 = b'-';
 

@@ -13,7 +13,7 @@ mod turn_call;
 mod write_call;
 
 use answers::Output;
-use fields::Failure;
+use fields::{Failure, SPACE};
 use frames::LINE_FEED;
 use places::Lent;
 use std::io::{self, Read};
@@ -22,9 +22,6 @@ use std::io::{self, Read};
 const INPUT_MOST: usize = 0x20_0000;
 
 type Input = [u8; INPUT_MOST];
-
-// What stands between two fields.
-const SPACE: u8 = b' ';
 
 // The answer to a line that is no call.
 const NO_CALL: u8 = b'?';
