@@ -6,7 +6,6 @@ use native.Mathlib.Omega.{arith}
 use lib.Seq.{length-take-le}
 use Rattle.std.specs.Prelude.{Result, Ok, Err}
 use Rattle.setups.specs.declared.Refusal.{Refusal}
-use Rattle.sets.specs.Lists.{Among}
 use Rattle.turn.specs.declared.gathered.Gathered.{Gathered}
 use Rattle.turn.specs.Code.Growing.{placed, sets_of, Inserts, Ready, Added, Overfull, Grown}
 use Rattle.turn.proofs.Placing.{placed_length, placed_listed, placed_rising}
@@ -50,9 +49,14 @@ module _ {Family : ℕ → Type 0} {before : Gathered} (ready : Ready Family bef
     over_first over = record { sets = over.sets; rising = over.rising; sound = λ S h. ⊎_elim inl (λ f. inr (inside S f)) (over.sound S h); more = over.more }
 
     module _ {middle : Gathered} (first : Added First before middle) where
-      -- what is found then was there, or is of the family
-      found_first : (S : ℕ) → Among S (sets_of middle) → Among S (sets_of before) ⊎ Family S
-      found_first S h = ⊎_elim inl (λ f. inr (inside S f)) (first.sound S h)
+      -- with that part the family is added, if it has nothing else
+      pub added_first : ((S : ℕ) → Family S → First S) → Added Family before middle
+      added_first all = record {
+        room = first.room;
+        kept = first.kept;
+        sound = λ S h. ⊎_elim inl (λ f. inr (inside S f)) (first.sound S h);
+        whole = λ S f. first.whole S (all S f);
+      }
 
       module _ {Second : ℕ → Type 0} (inside_too : (S : ℕ) → Second S → Family S) where
         -- it is then ready for another part that has nothing in common with the first
@@ -60,19 +64,20 @@ module _ {Family : ℕ → Type 0} {before : Gathered} (ready : Ready Family bef
         ready_second apart = record { fresh = λ S h s. ⊎_elim (λ k. ready.fresh S k (inside_too S s)) (λ f. apart S f s) (first.sound S h) }
 
         -- with both the family is added, if it has nothing else
-        pub added_both : (after : Gathered) → Added Second middle after → ((S : ℕ) → Family S → First S ⊎ Second S) → Added Family before after
-        added_both after second all = record {
+        pub grown_both : (after : Gathered) (result : Result (Unit {0}) Refusal) → Grown Second middle after result → ((S : ℕ) → Family S → First S ⊎ Second S)
+            → Grown Family before after result
+        grown_both after (Ok u) second all = record {
           room = second.room ∙ first.room;
           kept = λ S h. second.kept S (first.kept S h);
-          sound = λ S h. ⊎_elim (found_first S) (λ s. inr (inside_too S s)) (second.sound S h);
+          sound = λ S h. ⊎_elim (λ k. ⊎_elim inl (λ f. inr (inside S f)) (first.sound S k)) (λ s. inr (inside_too S s)) (second.sound S h);
           whole = λ S f. ⊎_elim (λ p. second.kept S (first.whole S p)) (second.whole S) (all S f);
         }
-
-        -- if that one is too much, so is the family
-        pub over_both : Overfull Second middle → Overfull Family before
-        over_both over = record {
-          sets = over.sets;
-          rising = over.rising;
-          sound = λ S h. ⊎_elim (found_first S) (λ s. inr (inside_too S s)) (over.sound S h);
-          more = let r = first.room in let m = over.more in omega arith;
-        }
+        grown_both after (Err refusal) second all = (
+          second.0,
+          record {
+            sets = second.1.sets;
+            rising = second.1.rising;
+            sound = λ S h. ⊎_elim (λ k. ⊎_elim inl (λ f. inr (inside S f)) (first.sound S k)) (λ s. inr (inside_too S s)) (second.1.sound S h);
+            more = let r = first.room in let m = second.1.more in omega arith;
+          },
+        )

@@ -42,25 +42,26 @@ impl Branch<'_> {
         }
     }
 
-    // The same for a branch each of whose sets has one of the settings `wanted`: takes one after the other, and leaves each after that.
-    // Where all are left, nothing hits the member that wants them.
+    // The same for a branch each of whose sets has one of the settings `wanted`: takes one of them, then leaves it. Where the last of them
+    // is left, nothing hits the member that wants them.
     #[cycle(branch_split)]
-    fn split(mut self, mut wanted: Set, found: &mut Gathered) -> Result<(), Refusal>
+    fn split(mut self, wanted: Set, found: &mut Gathered) -> Result<(), Refusal>
         requires turns_on { TurnsOn self.members.now self.taken self.left wanted }
         requires ready { Ready (HeldBy self) found.old }
         ensures { Grown (HeldBy self.entry) found.old found.new result }
     {
-        while wanted != EMPTY {
-            let setting = choose(wanted);
-            self.left = without(self.left, setting);
-            let taking = Branch {
-                taken: with(self.taken, setting),
-                ..self
-            };
-            taking.search(found)?;
-            wanted = without(wanted, setting);
+        let setting = choose(wanted);
+        self.left = without(self.left, setting);
+        let taking = Branch {
+            taken: with(self.taken, setting),
+            ..self
+        };
+        taking.search(found)?;
+        let still_wanted = without(wanted, setting);
+        if still_wanted == EMPTY {
+            return Ok(());
         }
-        Ok(())
+        self.split(still_wanted, found)
     }
 }
 

@@ -1,5 +1,5 @@
 -- `turn::Branch::search` and `turn::Branch::split`, which call each other, meet their contracts: a branch is empty, holds the taken
--- settings alone, or turns on some settings; each of these is taken, and then left.
+-- settings alone, or turns on some settings; one of these is taken, or it is left.
 use mathlib.Core.Path.{refl}
 use Prim.Native.Nat.{ℕ}
 use native.Mathlib.Omega.{arith}
@@ -9,7 +9,7 @@ use Rattle.setups.specs.Limits.{settings_most}
 use Rattle.sets.proofs.Single.{only_lone}
 use Rattle.turn.proofs.Branches.{own_empty, lost_empty, hit_one, wants_turns}
 use Rattle.turn.proofs.Growth.{added_none, grown_one}
-use Rattle.turn.proofs.Splitting.{Parts, fewer_left, fewer_wanted, take_ready, take_over, goes_next, goes_last}
+use Rattle.turn.proofs.Splitting.{Parts, fewer_left, leave_turns, take_ready, take_over, take_last, leave_ready, take_and_leave}
 use Rattle.turn.proofs.Branch.+branch_split.Goals as goal
 use Rattle.turn.proofs.Branch.+branch_split.Goals.{split-After-with}
 
@@ -35,12 +35,12 @@ search-split-requires t c = let wants = c.in-Wants.ensures in (omega arith, (wan
 
 -- ---- split
 
--- the two parts of what the loop goes on with, once the setting is chosen
+-- the two parts, once the setting is chosen
 parts : (t : ℕ) (c : split-After-with t) →
-    (let now = c.loop-wanted.self in
-    Parts now.members.now now.taken now.left c.loop-wanted.wanted (only settings_most c.choose-setting.result.0) c.with.result c.without.result)
+    (let a = c.args in
+    Parts a.self.members.now a.self.taken a.self.left a.wanted (only settings_most c.choose-setting.result.0) c.with.result c.without.result)
 parts t c = record {
-  turns = c.loop-wanted.invariant.1.turns c.loop-wanted-test.true;
+  turns = c.requires.turns_on;
   chosen = c.choose-setting.ensures;
   lone = only_lone settings_most c.choose-setting.result.0;
   joins = c.with.ensures;
@@ -51,22 +51,27 @@ pub split-search-requires : goal.split-search-requires
 split-search-requires t c =
     let p = parts t (goal.at.split-search-requires t c).After-with in
     let less = fewer_left p in
-    (omega arith, take_ready c.loop-wanted.invariant.1 p)
+    (omega arith, take_ready p c.requires.ready)
 
 pub split-returns-in_err-search : goal.split-returns-in_err-search
 split-returns-in_err-search t c =
     let p = parts t (goal.at.split-returns-in_err-search t c).After-with in
     let refused = err_from_is_err_and c.from_residual.result c.from_residual.ensures.1 in
-    rw (refused.1, refused.2) (c.in_err-search.ensures.0, take_over c.loop-wanted.invariant.1 p c.in_err-search.ensures.1)
+    rw (refused.1, refused.2) (c.in_err-search.ensures.0, take_over p c.requires.ready c.in_err-search.ensures.1)
 
-pub split-loop-wanted-smaller : goal.split-loop-wanted-smaller
-split-loop-wanted-smaller t c = fewer_wanted (parts t (goal.at.split-loop-wanted-smaller t c).After-with) c.without-wanted.result c.without-wanted.ensures
+pub split-returns-then-still_wanted-eq-EMPTY : goal.split-returns-then-still_wanted-eq-EMPTY
+split-returns-then-still_wanted-eq-EMPTY t c =
+    let still = c.without-still_wanted in
+    take_last (parts t (goal.at.split-returns-then-still_wanted-eq-EMPTY t c).After-with) c.requires.ready c.in_ok-search.ensures still.result still.ensures
+    c.if-still_wanted-eq-EMPTY.true
 
-pub split-loop-wanted-preserved : goal.split-loop-wanted-preserved
-split-loop-wanted-preserved t c =
-    let p = parts t (goal.at.split-loop-wanted-preserved t c).After-with in
+pub split-split-requires : goal.split-split-requires
+split-split-requires t c =
+    let p = parts t (goal.at.split-split-requires t c).After-with in
     let less = fewer_left p in
-    (omega arith, goes_next c.loop-wanted.invariant.1 p c.search.new.found c.without-wanted.result c.in_ok-search.ensures c.without-wanted.ensures)
+    let still = c.without-still_wanted in
+    (omega arith, (leave_turns p still.result still.ensures c.if-still_wanted-eq-EMPTY.false, leave_ready p c.requires.ready c.in_ok-search.ensures))
 
 pub split-returns : goal.split-returns
-split-returns t c = goes_last c.loop-wanted.invariant.1 c.loop-wanted-test.false
+split-returns t c =
+    take_and_leave (parts t (goal.at.split-returns t c).After-with) c.requires.ready c.in_ok-search.ensures _ c.split.result c.split.ensures
