@@ -7,10 +7,10 @@ use digits::put_bytes;
 use setups::{FINISHED, Refusal};
 use std::io;
 
-// How many bytes wait at the most, and of how many bytes the digits are put at once.
+// How many bytes wait at the most, and of how many bytes the digits are put at once: one by one they take several times as long.
 const WAITING_MOST: usize = 8_192;
 
-pub const PART: usize = WAITING_MOST / 2;
+pub const BYTES_PART: usize = WAITING_MOST / 2;
 
 // How many values a number has.
 const NUMBERS: u64 = 0x1_0000_0000;
@@ -68,7 +68,7 @@ impl<'a, R: Print> Output<'a, R> {
         Ok(())
     }
 
-    // Puts the two digits of each byte, of PART bytes at the most.
+    // Puts the two digits of each byte, of BYTES_PART at the most.
     pub fn digits(&mut self, bytes: &[u8]) -> io::Result<()>
         requires { 2 * length bytes.now ≤ 8192 }
     {
@@ -76,6 +76,18 @@ impl<'a, R: Print> Output<'a, R> {
         put_bytes(&mut self.waiting, self.filled, bytes);
         self.filled += 2 * bytes.len();
         Ok(())
+    }
+
+    // Puts a call's letter and writes it before its job runs, so that one that takes long is seen to be under way.
+    pub fn letter(&mut self, letter: u8) -> io::Result<()> {
+        self.byte(letter)?;
+        self.flush()
+    }
+
+    // Puts what every answer has after its letter: a number, and the count that it tells.
+    pub fn begin(&mut self, number: u8, count: u64) -> io::Result<()> {
+        self.number(u64::from(number))?;
+        self.number(count)
     }
 
     // Puts the field of a number, its last eight digits.

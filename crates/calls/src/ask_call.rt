@@ -26,14 +26,13 @@ pub fn answer<R: Print>(
     let assumed = run(assumed, &mut lent.second)?;
     let budget = number(budget)?;
     let model = room(model_room, &mut lent.third)?;
+    output.letter(b'A')?;
     let (number, visits) = match ask::ask(count, clauses, assumed, budget, model) {
         Ok(Asked::Model(visits)) => (FINISHED, visits),
         Ok(Asked::None(visits)) => (NO_MODEL, visits),
         Err(refusal) => (refusal.into(), 0),
     };
-    output.byte(b'A')?;
-    output.number(u64::from(number))?;
-    output.number(u64::from(visits))?;
+    output.begin(number, u64::from(visits))?;
     output.run(model)?;
     Ok(())
 }

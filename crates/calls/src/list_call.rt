@@ -26,14 +26,13 @@ pub fn answer<R: Print>(
     let soft = run(soft, &mut lent.second)?;
     let ways_out = room(list_room, &mut lent.list)?;
     let scratch = room(scratch_room, &mut lent.scratch)?;
+    output.letter(b'L')?;
     let (number, filled) = match list::list(count, hard, soft, ways_out, scratch) {
         Ok(Listing::Listed(filled)) => (FINISHED, filled),
         Ok(Listing::Unmet) => (UNMET, 0),
         Err(refusal) => (refusal.into(), 0),
     };
-    output.byte(b'L')?;
-    output.number(u64::from(number))?;
-    output.number(filled as u64)?;
+    output.begin(number, filled as u64)?;
     output.run(ways_out)?;
     output.run(scratch)?;
     Ok(())

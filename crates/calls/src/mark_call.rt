@@ -22,10 +22,9 @@ pub fn answer<R: Print>(
     let settings = number(settings)?;
     let list = run(list, &mut lent.given)?;
     let marks = room(mark_room, &mut lent.first)?;
+    output.letter(b'M')?;
     let (number, filled) = outcome(mark::mark(settings, list, marks));
-    output.byte(b'M')?;
-    output.number(u64::from(number))?;
-    output.number(u64::from(filled))?;
+    output.begin(number, u64::from(filled))?;
     output.run(marks)?;
     Ok(())
 }

@@ -2,7 +2,7 @@
 ghost use Rattle.std.specs.Prelude.{ℕ, ◌*◌, ◌<◌, ◌≤◌, length};
 ghost use Rattle.std.proofs.Common.{rules};
 
-use crate::answers::{Output, PART};
+use crate::answers::{BYTES_PART, Output};
 use crate::fields::value;
 use sets::Set;
 use std::io;
@@ -46,7 +46,7 @@ impl Place for u8 {
     }
 
     fn put_digits<R: Print>(places: &[u8], output: &mut Output<R>) -> io::Result<()> {
-        for part in places.chunks(PART) {
+        for part in places.chunks(BYTES_PART) {
             output.digits(part)?;
         }
         Ok(())

@@ -23,15 +23,14 @@ pub fn answer<R: Print>(
     let text = run(text, &mut lent.first)?;
     let hard = room(hard_room, &mut lent.second)?;
     let soft = room(soft_room, &mut lent.third)?;
+    output.letter(b'R')?;
     let (number, setup) = outcome(read::read(text, hard, soft));
     let ReadSetup {
         count,
         hard_filled,
         soft_filled,
     } = setup;
-    output.byte(b'R')?;
-    output.number(u64::from(number))?;
-    output.number(u64::from(count))?;
+    output.begin(number, u64::from(count))?;
     output.number(hard_filled as u64)?;
     output.number(soft_filled as u64)?;
     output.run(hard)?;

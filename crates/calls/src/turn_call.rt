@@ -23,10 +23,9 @@ pub fn answer<R: Print>(
     let list = run(list, &mut lent.given)?;
     let turned = room(list_room, &mut lent.list)?;
     let scratch = room(scratch_room, &mut lent.scratch)?;
+    output.letter(b'T')?;
     let (number, filled) = outcome(turn::turn(settings, list, turned, scratch));
-    output.byte(b'T')?;
-    output.number(u64::from(number))?;
-    output.number(filled as u64)?;
+    output.begin(number, filled as u64)?;
     output.run(turned)?;
     output.run(scratch)?;
     Ok(())

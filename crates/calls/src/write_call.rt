@@ -23,10 +23,9 @@ pub fn answer<R: Print>(
     let hard = run(hard, &mut lent.first)?;
     let soft = run(soft, &mut lent.second)?;
     let text = room(text_room, &mut lent.third)?;
+    output.letter(b'W')?;
     let (number, filled) = outcome(write::write(count, hard, soft, text));
-    output.byte(b'W')?;
-    output.number(u64::from(number))?;
-    output.number(filled as u64)?;
+    output.begin(number, filled as u64)?;
     output.run(text)?;
     Ok(())
 }
