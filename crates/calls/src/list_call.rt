@@ -1,15 +1,10 @@
 // A call of List, `L count hard soft room scratchroom`, and its answer, `L number filled list scratch`.
-use crate::answers::Output;
+use crate::caller::Caller;
 use crate::fields::{Failure, Fields, number, room, run};
-use crate::places::Lent;
 use list::Listing;
 use setups::{FINISHED, UNMET};
 
-pub fn answer<R: Print>(
-    output: &mut Output<R>,
-    lent: &mut Lent,
-    fields: Fields,
-) -> Result<(), Failure> {
+pub fn answer<R: Print>(caller: &mut Caller<R>, fields: Fields) -> Result<(), Failure> {
     let [
         Some(count),
         Some(hard),
@@ -22,18 +17,18 @@ pub fn answer<R: Print>(
         return Err(Failure::NoCall);
     };
     let count = number(count)?;
-    let hard = run(hard, &mut lent.first)?;
-    let soft = run(soft, &mut lent.second)?;
-    let ways_out = room(list_room, &mut lent.list)?;
-    let scratch = room(scratch_room, &mut lent.scratch)?;
-    output.letter(b'L')?;
+    let hard = run(hard, &mut caller.first)?;
+    let soft = run(soft, &mut caller.second)?;
+    let ways_out = room(list_room, &mut caller.list)?;
+    let scratch = room(scratch_room, &mut caller.scratch)?;
+    caller.output.letter(b'L')?;
     let (number, filled) = match list::list(count, hard, soft, ways_out, scratch) {
         Ok(Listing::Listed(filled)) => (FINISHED, filled),
         Ok(Listing::Unmet) => (UNMET, 0),
         Err(refusal) => (refusal.into(), 0),
     };
-    output.begin(number, filled as u64)?;
-    output.run(ways_out)?;
-    output.run(scratch)?;
+    caller.output.begin(number, filled as u64)?;
+    caller.output.run(ways_out)?;
+    caller.output.run(scratch)?;
     Ok(())
 }

@@ -4,6 +4,7 @@
 
 mod answers;
 mod ask_call;
+mod caller;
 mod fields;
 mod list_call;
 mod mark_call;
@@ -12,10 +13,9 @@ mod read_call;
 mod turn_call;
 mod write_call;
 
-use answers::Output;
+use caller::Caller;
 use fields::{Failure, SPACE};
 use frames::LINE_FEED;
-use places::Lent;
 use std::io::{self, Read};
 
 // How many bytes of input are taken at the most: 2 MiB.
@@ -27,7 +27,7 @@ type Input = [u8; INPUT_MOST];
 const NO_CALL: u8 = b'?';
 
 // Answers a line: the letter is its first field, and the fields after it are the job's; a seventh would be one too many.
-fn answer<R: Print>(output: &mut Output<R>, lent: &mut Lent, line: &[u8]) -> Result<(), Failure> {
+fn answer<R: Print>(caller: &mut Caller<R>, line: &[u8]) -> Result<(), Failure> {
     let mut parts = line.split(|byte| *byte == SPACE);
     let letter = parts.next();
     let fields = [
@@ -39,37 +39,36 @@ fn answer<R: Print>(output: &mut Output<R>, lent: &mut Lent, line: &[u8]) -> Res
         parts.next(),
     ];
     match letter {
-        Some(b"A") => ask_call::answer(output, lent, fields),
-        Some(b"L") => list_call::answer(output, lent, fields),
-        Some(b"T") => turn_call::answer(output, lent, fields),
-        Some(b"M") => mark_call::answer(output, lent, fields),
-        Some(b"R") => read_call::answer(output, lent, fields),
-        Some(b"W") => write_call::answer(output, lent, fields),
+        Some(b"A") => ask_call::answer(caller, fields),
+        Some(b"L") => list_call::answer(caller, fields),
+        Some(b"T") => turn_call::answer(caller, fields),
+        Some(b"M") => mark_call::answer(caller, fields),
+        Some(b"R") => read_call::answer(caller, fields),
+        Some(b"W") => write_call::answer(caller, fields),
         _ => Err(Failure::NoCall),
     }
 }
 
 // Writes what answers a line; what lies after the last line feed is no call.
-fn write_answer<R: Print>(output: &mut Output<R>, lent: &mut Lent, line: &[u8]) -> io::Result<()> {
+fn write_answer<R: Print>(caller: &mut Caller<R>, line: &[u8]) -> io::Result<()> {
     let answered = match line.strip_suffix(&[LINE_FEED]) {
-        Some(line) => answer(output, lent, line),
+        Some(line) => answer(caller, line),
         None => Err(Failure::NoCall),
     };
     match answered {
         Ok(()) => {}
-        Err(Failure::NoCall) => output.byte(NO_CALL)?,
+        Err(Failure::NoCall) => caller.output.byte(NO_CALL)?,
         Err(Failure::Unwritten(error)) => return Err(error),
     }
-    output.byte(LINE_FEED)?;
-    output.flush()
+    caller.output.byte(LINE_FEED)?;
+    caller.output.flush()
 }
 
 // Answers the lines of the input in order.
 fn answer_all<R: Print>(rt: &R, input: &[u8]) -> io::Result<()> {
-    let mut lent = Lent::new();
-    let mut output = Output::new(rt);
+    let mut caller = Caller::new(rt);
     for line in input.split_inclusive(|byte| *byte == LINE_FEED) {
-        write_answer(&mut output, &mut lent, line)?;
+        write_answer(&mut caller, line)?;
     }
     Ok(())
 }

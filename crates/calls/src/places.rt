@@ -86,27 +86,3 @@ impl Place for Set {
 
     ghost some_digits = { Prim.search rules };
 }
-
-// All places that a call needs: three runs or rooms of bytes and three of sets. What they hold before a call means nothing.
-#[derive(Drop)]
-pub struct Lent {
-    pub first: [u8; BYTES_MOST],
-    pub second: [u8; BYTES_MOST],
-    pub third: [u8; BYTES_MOST],
-    pub given: [Set; SETS_MOST],
-    pub list: [Set; SETS_MOST],
-    pub scratch: [Set; SETS_MOST],
-}
-
-impl Lent {
-    pub fn new() -> Lent {
-        Lent {
-            first: [0; BYTES_MOST],
-            second: [0; BYTES_MOST],
-            third: [0; BYTES_MOST],
-            given: [0; SETS_MOST],
-            list: [0; SETS_MOST],
-            scratch: [0; SETS_MOST],
-        }
-    }
-}

@@ -1,13 +1,9 @@
 // A call of Turn, `T settings list room scratchroom`, and its answer, `T number filled list scratch`.
-use crate::answers::{Output, outcome};
+use crate::answers::outcome;
+use crate::caller::Caller;
 use crate::fields::{Failure, Fields, number, room, run};
-use crate::places::Lent;
 
-pub fn answer<R: Print>(
-    output: &mut Output<R>,
-    lent: &mut Lent,
-    fields: Fields,
-) -> Result<(), Failure> {
+pub fn answer<R: Print>(caller: &mut Caller<R>, fields: Fields) -> Result<(), Failure> {
     let [
         Some(settings),
         Some(list),
@@ -20,13 +16,13 @@ pub fn answer<R: Print>(
         return Err(Failure::NoCall);
     };
     let settings = number(settings)?;
-    let list = run(list, &mut lent.given)?;
-    let turned = room(list_room, &mut lent.list)?;
-    let scratch = room(scratch_room, &mut lent.scratch)?;
-    output.letter(b'T')?;
+    let list = run(list, &mut caller.given)?;
+    let turned = room(list_room, &mut caller.list)?;
+    let scratch = room(scratch_room, &mut caller.scratch)?;
+    caller.output.letter(b'T')?;
     let (number, filled) = outcome(turn::turn(settings, list, turned, scratch));
-    output.begin(number, filled as u64)?;
-    output.run(turned)?;
-    output.run(scratch)?;
+    caller.output.begin(number, filled as u64)?;
+    caller.output.run(turned)?;
+    caller.output.run(scratch)?;
     Ok(())
 }

@@ -1,13 +1,9 @@
 // A call of Write, `W count hard soft textroom`, and its answer, `W number filled text`.
-use crate::answers::{Output, outcome};
+use crate::answers::outcome;
+use crate::caller::Caller;
 use crate::fields::{Failure, Fields, number, room, run};
-use crate::places::Lent;
 
-pub fn answer<R: Print>(
-    output: &mut Output<R>,
-    lent: &mut Lent,
-    fields: Fields,
-) -> Result<(), Failure> {
+pub fn answer<R: Print>(caller: &mut Caller<R>, fields: Fields) -> Result<(), Failure> {
     let [
         Some(count),
         Some(hard),
@@ -20,12 +16,12 @@ pub fn answer<R: Print>(
         return Err(Failure::NoCall);
     };
     let count = number(count)?;
-    let hard = run(hard, &mut lent.first)?;
-    let soft = run(soft, &mut lent.second)?;
-    let text = room(text_room, &mut lent.third)?;
-    output.letter(b'W')?;
+    let hard = run(hard, &mut caller.first)?;
+    let soft = run(soft, &mut caller.second)?;
+    let text = room(text_room, &mut caller.third)?;
+    caller.output.letter(b'W')?;
     let (number, filled) = outcome(write::write(count, hard, soft, text));
-    output.begin(number, filled as u64)?;
-    output.run(text)?;
+    caller.output.begin(number, filled as u64)?;
+    caller.output.run(text)?;
     Ok(())
 }
